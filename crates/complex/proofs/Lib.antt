@@ -1,0 +1,3 @@
+pub mod Cases
+pub mod FloatLaws
+pub mod UnitLaws

@@ -1,0 +1,7 @@
+pub mod TestLaws
+pub mod GaussLaws
+pub mod SumLaws
+pub mod BitLaws
+pub mod TableLaws
+pub mod Letterings
+pub mod Codes

@@ -1,0 +1,68 @@
+// The letters of one site: 0 identity, 1 X, 2 Y (iY in a decoherence product), 3 Z.
+// A factor is a power of i, 0 to 3; the modules answer it as the Rust does.
+ghost use mathlib.Core.Path.{_≡_};
+ghost use Prim.Native.Nat.{_<_};
+ghost use Rattle.letters.specs.Matrices.{lettersOf};
+ghost use Rattle.letters.specs.Answers.{other, saidLetter, multiplyLetters, conjugateLetter, convertLetter};
+use refusal::Refusal;
+
+pub mod single_decoherence_operator;
+pub mod single_pauli_operator;
+mod tables;
+
+pub enum Kind {
+    Pauli,
+    Decoherence,
+}
+
+// A letter and its power of i.
+pub enum LetterAnswer {
+    Letter(u8, u8),
+    Refused(Refusal),
+}
+
+// A letter and its factor.
+pub enum ComplexLetter {
+    Letter(u8, complex::Complex),
+    Refused(Refusal),
+}
+
+// A letter and its factor, 1 or -1.
+pub enum SignedLetter {
+    Letter(u8, f64),
+    Refused(Refusal),
+}
+
+// The product of two letters of one kind.
+pub fn multiply(kind: Kind, left: u8, right: u8) -> LetterAnswer
+    ensures { λ r. ⌜ saidLetter r ≡ multiplyLetters (lettersOf kind) left right ⌝ }
+{
+    if 3 < left {
+        return LetterAnswer::Refused(Refusal::UnknownLetter);
+    }
+    if 3 < right {
+        return LetterAnswer::Refused(Refusal::UnknownLetter);
+    }
+    let x = tables::product(kind, left, right);
+    LetterAnswer::Letter(x.letter, x.power)
+}
+
+// The conjugate transpose of a letter.
+pub fn conjugate(kind: Kind, letter: u8) -> LetterAnswer
+    ensures { λ r. ⌜ saidLetter r ≡ conjugateLetter (lettersOf kind) letter ⌝ }
+{
+    if 3 < letter {
+        return LetterAnswer::Refused(Refusal::UnknownLetter);
+    }
+    LetterAnswer::Letter(letter, tables::conjugate_power(kind, letter))
+}
+
+// A letter in the letters of the other kind.
+pub fn convert(kind: Kind, letter: u8) -> LetterAnswer
+    ensures { λ r. ⌜ saidLetter r ≡ convertLetter (lettersOf kind) (lettersOf (other kind)) letter ⌝ }
+{
+    if 3 < letter {
+        return LetterAnswer::Refused(Refusal::UnknownLetter);
+    }
+    LetterAnswer::Letter(letter, tables::convert_power(kind, letter))
+}
