@@ -90,3 +90,13 @@ first-holds p (suc n) i h =
 
 pub eqb-sym : (a b : ℕ) → eqb a b ≡ eqb b a
 eqb-sym a b = bool-ext (eqb a b) (eqb b a) (λ e. eq-eqb b a (sym (eqb-true a b e))) (λ e. eq-eqb a b (sym (eqb-true b a e)))
+
+-- and fails at each number before it
+first-skip : (p : ℕ → Bool) (i r : ℕ) (b : Bool) → p i ≡ b → (k : ℕ) → i ≤ k → k < cond b i r → ((m : ℕ) → suc i ≤ m → m < r → p m ≡ false) → p k ≡ false
+first-skip p i r true e k a l h = absurd (omega arith)
+first-skip p i r false e k a l h = ⊎-elim (λ q. ap p (sym q) ∙ e) (λ q. h k q l) (eq-or-lt-of-le a)
+
+pub first-before : (p : ℕ → Bool) (n i k : ℕ) → i ≤ k → k < firstFrom p n i → p k ≡ false
+unfolding firstFrom
+first-before p zero i k a l = absurd (omega arith)
+first-before p (suc n) i k a l = first-skip p i (firstFrom p n (suc i)) (p i) refl k a l (λ m b t. first-before p n (suc i) m b t)

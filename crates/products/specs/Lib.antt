@@ -1,0 +1,7 @@
+pub mod Lists
+pub mod Record
+pub mod Answers
+pub mod Orders
+pub mod Kinds
+pub mod Steps
+pub mod Changes

@@ -1,0 +1,193 @@
+// Products of decoherence letters: identity, X, iY and Z.
+ghost use mathlib.Core.Path.{_≡_};
+ghost use Rattle.letters.specs.Matrices.{pauli, decoherence};
+ghost use Rattle.letters.specs.Answers.{asComplex};
+ghost use Rattle.letters.specs.declared.Kind.the-variants.{Decoherence};
+ghost use Rattle.products.specs.Lists.{at};
+ghost use Rattle.products.specs.Answers.{emptyProduct, saidGot, getAnswer, setAnswer, multiplyAnswer, concatenateAnswer, remapAnswer, conjugateAnswer, convertAnswer, rowAnswer};
+ghost use Rattle.products.specs.Orders.{saidOrder, compareAnswer};
+ghost use Rattle.products.specs.Kinds.{toldDecoherence, toldFactor, toldSign, toldPauliFactor, saidProductRow, withFactor, withSign};
+use crate::items::Compared;
+use crate::items::Got;
+use crate::items::Items;
+use crate::items::ItemsRow;
+use crate::items::Site;
+use crate::pauli_product::PauliProduct;
+use crate::pauli_product::PauliWithFactor;
+use complex::Complex;
+use letters::Kind;
+use refusal::Outcome;
+use refusal::Refusal;
+
+pub struct DecoherenceProduct {
+    pub items: Items,
+}
+
+pub struct DecoherenceAnswer {
+    pub outcome: Outcome,
+    pub product: DecoherenceProduct,
+}
+
+pub struct DecoherenceWithFactor {
+    pub outcome: Outcome,
+    pub factor: Complex,
+    pub product: DecoherenceProduct,
+}
+
+pub struct DecoherenceWithSign {
+    pub outcome: Outcome,
+    pub factor: f64,
+    pub product: DecoherenceProduct,
+}
+
+// The entry of a row that is not zero: its column and its factor.
+pub enum ProductRow {
+    Entry(u64, Complex),
+    Refused(Refusal),
+}
+
+impl DecoherenceProduct {
+    // The empty product.
+    pub fn new() -> DecoherenceProduct
+        ensures { λ r. ⌜ r .items ≡ emptyProduct ⌝ }
+    {
+        let items = crate::items::empty();
+        DecoherenceProduct { items: items }
+    }
+
+    // The letter on a site.
+    pub fn get(self, site: Site) -> Got
+        ensures { λ r. ⌜ saidGot r ≡ getAnswer (self .items) site ⌝ }
+    {
+        let p = self.items;
+        crate::put::get(p, site)
+    }
+
+    // The product with a letter on a site; the identity frees it.
+    pub fn set_pauli(self, site: Site, letter: u8) -> DecoherenceAnswer
+        ensures { λ r. ⌜ toldDecoherence r ≡ setAnswer (self .items) site letter ⌝ }
+    {
+        let p = self.items;
+        let a = crate::put::set_pauli(p, site, letter);
+        let outcome = a.outcome;
+        let items = a.items;
+        DecoherenceAnswer {
+            outcome: outcome,
+            product: DecoherenceProduct { items: items },
+        }
+    }
+
+    // The matrix product of two products: a product and its factor.
+    pub fn multiply(self, right: DecoherenceProduct) -> DecoherenceWithFactor
+        ensures { λ r. ⌜ toldFactor r ≡ withFactor (multiplyAnswer decoherence (self .items) (right .items)) ⌝ }
+    {
+        let p = self.items;
+        let q = right.items;
+        let a = crate::multiply::multiply(Kind::Decoherence, p, q);
+        let outcome = a.outcome;
+        let items = a.items;
+        let factor = complex::unit_of_i(a.power);
+        DecoherenceWithFactor {
+            outcome: outcome,
+            factor: factor,
+            product: DecoherenceProduct { items: items },
+        }
+    }
+
+    // Two products on different sites, as one.
+    pub fn concatenate(self, other: DecoherenceProduct) -> DecoherenceAnswer
+        ensures { λ r. ⌜ toldDecoherence r ≡ concatenateAnswer (self .items) (other .items) ⌝ }
+    {
+        let p = self.items;
+        let q = other.items;
+        let a = crate::multiply::concatenate(p, q);
+        let outcome = a.outcome;
+        let items = a.items;
+        DecoherenceAnswer {
+            outcome: outcome,
+            product: DecoherenceProduct { items: items },
+        }
+    }
+
+    // Each letter moves from its site s to targets[s].
+    pub fn remap_qubits(self, targets: [Site; 31]) -> DecoherenceAnswer
+        ensures { λ r. ⌜ toldDecoherence r ≡ remapAnswer (at targets) (self .items) ⌝ }
+    {
+        let p = self.items;
+        let a = crate::remap::remap_qubits(p, targets);
+        let outcome = a.outcome;
+        let items = a.items;
+        DecoherenceAnswer {
+            outcome: outcome,
+            product: DecoherenceProduct { items: items },
+        }
+    }
+
+    // By number of occupied sites, then place by place by site and letter.
+    pub fn cmp(self, other: DecoherenceProduct) -> Compared
+        ensures { λ r. ⌜ saidOrder r ≡ compareAnswer Decoherence (self .items) (other .items) ⌝ }
+    {
+        let p = self.items;
+        let q = other.items;
+        crate::order::compare(Kind::Decoherence, p, q)
+    }
+
+    // The conjugate transpose: the product itself, with the factor -1 for an odd number of iY.
+    pub fn hermitian_conjugate(self) -> DecoherenceWithSign
+        ensures { λ r. ⌜ toldSign r ≡ withSign (conjugateAnswer decoherence (self .items)) ⌝ }
+    {
+        let p = self.items;
+        let a = crate::change::conjugate(Kind::Decoherence, p);
+        let outcome = a.outcome;
+        let items = a.items;
+        let factor = complex::unit_of_i(a.power);
+        DecoherenceWithSign {
+            outcome: outcome,
+            factor: factor.re,
+            product: DecoherenceProduct { items: items },
+        }
+    }
+
+    // A decoherence product in Pauli letters.
+    pub fn decoherence_to_spin(self) -> PauliWithFactor
+        ensures { λ r. ⌜ toldPauliFactor r ≡ withFactor (convertAnswer decoherence pauli (self .items)) ⌝ }
+    {
+        let p = self.items;
+        let a = crate::change::convert(Kind::Decoherence, p);
+        let outcome = a.outcome;
+        let items = a.items;
+        let factor = complex::unit_of_i(a.power);
+        PauliWithFactor {
+            outcome: outcome,
+            factor: factor,
+            product: PauliProduct { items: items },
+        }
+    }
+
+    // A Pauli product in decoherence letters.
+    pub fn spin_to_decoherence(product: PauliProduct) -> DecoherenceWithFactor
+        ensures { λ r. ⌜ toldFactor r ≡ withFactor (convertAnswer pauli decoherence (product .items)) ⌝ }
+    {
+        let p = product.items;
+        let a = crate::change::convert(Kind::Pauli, p);
+        let outcome = a.outcome;
+        let items = a.items;
+        let factor = complex::unit_of_i(a.power);
+        DecoherenceWithFactor {
+            outcome: outcome,
+            factor: factor,
+            product: DecoherenceProduct { items: items },
+        }
+    }
+
+    // The entry of a row over a number of spins that is not zero.
+    pub fn sparse_matrix_entries_on_row(self, spins: u32, row: u64) -> ProductRow
+        ensures { λ r. ⌜ saidProductRow r ≡ asComplex (rowAnswer decoherence (self .items) spins row) ⌝ }
+    {
+        let p = self.items;
+        match crate::row::row(Kind::Decoherence, p, spins, row) {
+            ItemsRow::Entry(column, power) => ProductRow::Entry(column, complex::unit_of_i(power)),
+            ItemsRow::Refused(why) => ProductRow::Refused(why),
+        }
+    }
+}

@@ -1,0 +1,139 @@
+// Products of Pauli letters.
+ghost use mathlib.Core.Path.{_≡_};
+ghost use Rattle.letters.specs.Matrices.{pauli};
+ghost use Rattle.letters.specs.declared.Kind.the-variants.{Pauli};
+ghost use Rattle.products.specs.Lists.{at};
+ghost use Rattle.products.specs.Answers.{emptyProduct, saidGot, getAnswer, setAnswer, multiplyAnswer, concatenateAnswer, remapAnswer, conjugateAnswer};
+ghost use Rattle.products.specs.Orders.{saidOrder, compareAnswer};
+ghost use Rattle.products.specs.Kinds.{toldPauli, toldPauliFactor, toldPauliSign, withFactor, withSign};
+use crate::items::Compared;
+use crate::items::Got;
+use crate::items::Items;
+use crate::items::Site;
+use complex::Complex;
+use letters::Kind;
+use refusal::Outcome;
+
+pub struct PauliProduct {
+    pub items: Items,
+}
+
+pub struct PauliAnswer {
+    pub outcome: Outcome,
+    pub product: PauliProduct,
+}
+
+pub struct PauliWithFactor {
+    pub outcome: Outcome,
+    pub factor: Complex,
+    pub product: PauliProduct,
+}
+
+pub struct PauliWithSign {
+    pub outcome: Outcome,
+    pub factor: f64,
+    pub product: PauliProduct,
+}
+
+impl PauliProduct {
+    // The empty product.
+    pub fn new() -> PauliProduct
+        ensures { λ r. ⌜ r .items ≡ emptyProduct ⌝ }
+    {
+        let items = crate::items::empty();
+        PauliProduct { items: items }
+    }
+
+    // The letter on a site.
+    pub fn get(self, site: Site) -> Got
+        ensures { λ r. ⌜ saidGot r ≡ getAnswer (self .items) site ⌝ }
+    {
+        let p = self.items;
+        crate::put::get(p, site)
+    }
+
+    // The product with a letter on a site; the identity frees it.
+    pub fn set_pauli(self, site: Site, letter: u8) -> PauliAnswer
+        ensures { λ r. ⌜ toldPauli r ≡ setAnswer (self .items) site letter ⌝ }
+    {
+        let p = self.items;
+        let a = crate::put::set_pauli(p, site, letter);
+        let outcome = a.outcome;
+        let items = a.items;
+        PauliAnswer {
+            outcome: outcome,
+            product: PauliProduct { items: items },
+        }
+    }
+
+    // The matrix product of two products: a product and its factor.
+    pub fn multiply(self, right: PauliProduct) -> PauliWithFactor
+        ensures { λ r. ⌜ toldPauliFactor r ≡ withFactor (multiplyAnswer pauli (self .items) (right .items)) ⌝ }
+    {
+        let p = self.items;
+        let q = right.items;
+        let a = crate::multiply::multiply(Kind::Pauli, p, q);
+        let outcome = a.outcome;
+        let items = a.items;
+        let factor = complex::unit_of_i(a.power);
+        PauliWithFactor {
+            outcome: outcome,
+            factor: factor,
+            product: PauliProduct { items: items },
+        }
+    }
+
+    // Two products on different sites, as one.
+    pub fn concatenate(self, other: PauliProduct) -> PauliAnswer
+        ensures { λ r. ⌜ toldPauli r ≡ concatenateAnswer (self .items) (other .items) ⌝ }
+    {
+        let p = self.items;
+        let q = other.items;
+        let a = crate::multiply::concatenate(p, q);
+        let outcome = a.outcome;
+        let items = a.items;
+        PauliAnswer {
+            outcome: outcome,
+            product: PauliProduct { items: items },
+        }
+    }
+
+    // Each letter moves from its site s to targets[s].
+    pub fn remap_qubits(self, targets: [Site; 31]) -> PauliAnswer
+        ensures { λ r. ⌜ toldPauli r ≡ remapAnswer (at targets) (self .items) ⌝ }
+    {
+        let p = self.items;
+        let a = crate::remap::remap_qubits(p, targets);
+        let outcome = a.outcome;
+        let items = a.items;
+        PauliAnswer {
+            outcome: outcome,
+            product: PauliProduct { items: items },
+        }
+    }
+
+    // By number of occupied sites, then by all sites, then by all letters.
+    pub fn cmp(self, other: PauliProduct) -> Compared
+        ensures { λ r. ⌜ saidOrder r ≡ compareAnswer Pauli (self .items) (other .items) ⌝ }
+    {
+        let p = self.items;
+        let q = other.items;
+        crate::order::compare(Kind::Pauli, p, q)
+    }
+
+    // The conjugate transpose: the product itself, with the factor 1.
+    pub fn hermitian_conjugate(self) -> PauliWithSign
+        ensures { λ r. ⌜ toldPauliSign r ≡ withSign (conjugateAnswer pauli (self .items)) ⌝ }
+    {
+        let p = self.items;
+        let a = crate::change::conjugate(Kind::Pauli, p);
+        let outcome = a.outcome;
+        let items = a.items;
+        let factor = complex::unit_of_i(a.power);
+        PauliWithSign {
+            outcome: outcome,
+            factor: factor.re,
+            product: PauliProduct { items: items },
+        }
+    }
+}

@@ -1,0 +1,96 @@
+// The row of a product's matrix: one entry is not zero.
+ghost use mathlib.Core.Path.{_≡_};
+ghost use mathlib.Core.Bool.{true};
+ghost use Prim.Native.Nat.{ℕ, _^_, _<_, _≤_};
+ghost use Rattle.refusal.specs.Refusals.{gives};
+ghost use Rattle.letters.specs.Matrices.{lettersOf};
+ghost use Rattle.letters.specs.Single.{cell};
+ghost use Rattle.letters.specs.Rows.{columnOf, rowPower};
+ghost use Rattle.products.specs.Record.{valid, letterAt, reach};
+ghost use Rattle.products.specs.Answers.{saidRow, rowAnswer};
+use crate::items::Items;
+use crate::items::ItemsRow;
+use crate::items::is_valid;
+use crate::items::wide;
+use letters::Kind;
+use refusal::Refusal;
+
+// The most spins that a row takes.
+pub const MOST_SPINS: u32 = 31;
+
+// The entries of the letters' rows that are not zero, at 2 letter + row: 2 power + column.
+const PAULI_CELLS: [u8; 8] = [0, 1, 1, 0, 7, 2, 0, 5];
+
+const DECOHERENCE_CELLS: [u8; 8] = [0, 1, 1, 0, 1, 4, 0, 5];
+
+// The entry of a letter's row that is not zero.
+fn letter_cell(kind: Kind, letter: u8, bit: u64) -> u8
+    requires { ⌜ (letter < 4) × (bit < 2) ⌝ }
+    ensures { λ r. ⌜ r ≡ cell (lettersOf kind) letter bit ⌝ }
+{
+    let at = 2 * (letter as usize) + (bit as usize);
+    match kind {
+        Kind::Pauli => PAULI_CELLS[at],
+        Kind::Decoherence => DECOHERENCE_CELLS[at],
+    }
+}
+
+// The number with the one bit `k`.
+fn place_of(k: u32) -> u64
+    requires { ⌜ k < 64 ⌝ }
+    ensures { λ r. ⌜ r ≡ 2 ^ k ⌝ }
+{
+    1u64 << k
+}
+
+// One more than the highest occupied site.
+fn reach_of(p: Items) -> usize
+    requires { ⌜ valid p ≡ true ⌝ }
+    ensures { λ r. ⌜ r ≡ reach p ⌝ }
+{
+    let count = p.count;
+    if count == 0 {
+        return 0;
+    }
+    wide(p.sites[count - 1]) + 1
+}
+
+// The entry of a row that is not zero: a free site leaves the row's bit as it is.
+fn entry(kind: Kind, p: Items, row: u64) -> ItemsRow
+    requires { ⌜ (valid p ≡ true) × (row < 2 ^ 31) ⌝ }
+    ensures { λ r. ⌜ ((n : ℕ) → reach p ≤ n → row < 2 ^ n → saidRow r ≡ gives (columnOf (lettersOf kind) n (letterAt p) row, rowPower (lettersOf kind) n (letterAt p) row)) ⌝ }
+{
+    let count = p.count;
+    let mut column = row;
+    let mut power: u8 = 0;
+    let mut i: usize = 0;
+    while i < count {
+        let place = place_of(p.sites[i] as u32);
+        let bit = row / place % 2;
+        let here = letter_cell(kind, p.letters[i], bit);
+        column = column - bit * place + ((here % 2) as u64) * place;
+        power = (power + here / 2) % 4;
+        i += 1;
+    }
+    ItemsRow::Entry(column, power)
+}
+
+// The column and the power of i of the entry of `row` that is not zero, over `spins` spins.
+pub fn row(kind: Kind, p: Items, spins: u32, row: u64) -> ItemsRow
+    ensures { λ r. ⌜ saidRow r ≡ rowAnswer (lettersOf kind) p spins row ⌝ }
+{
+    if !is_valid(p) {
+        return ItemsRow::Refused(Refusal::Malformed);
+    }
+    if MOST_SPINS < spins {
+        return ItemsRow::Refused(Refusal::TooManySpins);
+    }
+    if place_of(spins) <= row {
+        return ItemsRow::Refused(Refusal::RowOutOfRange);
+    }
+    let reach = reach_of(p);
+    if (spins as usize) < reach {
+        return ItemsRow::Refused(Refusal::SiteOutsideSpins(reach - 1));
+    }
+    entry(kind, p, row)
+}
