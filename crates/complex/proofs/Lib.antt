@@ -1,3 +1,4 @@
 pub mod Cases
 pub mod FloatLaws
 pub mod UnitLaws
+pub mod ZeroLaws

@@ -1,8 +1,9 @@
 -- Complex numbers of two f64, and the size that a coefficient may have, from document 01. Definitions only.
 -- `add`, `sub`, `mul` and `neg` are those of IEEE 754, and each rounds once.
 use Prim.Native.Nat.{ℕ, zero, suc, _*_, _^_, _%_}
-use mathlib.Core.Bool.{Bool, false, _&&_}
-use lib.Dec.{leb}
+use mathlib.Core.Bool.{Bool, false, not, _&&_}
+use lib.Dec.{leb, eqb}
+use lib.IntN.{pos, negsuc}
 use lib.Ieee.{Float, nan, inf, fin, binary64, ofBits, add, sub, mul, neg, eq, up, down}
 use Rattle.complex.specs.declared.Complex.{Complex}
 
@@ -67,3 +68,10 @@ unitOf (suc (suc (suc n))) = record { re = plusZero; im = minusOne }
 unfoldable pub unitOfI : ℕ → Complex
 unfolding unitOf
 unitOfI power = unitOf (power % 4)
+
+-- "zeros (+0 in floats)": the value +0 and no other
+unfoldable pub isPlusZero : Float → Bool
+isPlusZero nan = false
+isPlusZero (inf s) = false
+isPlusZero (fin s m (pos n)) = not s && (eqb m 0 && eqb n 0)
+isPlusZero (fin s m (negsuc n)) = false

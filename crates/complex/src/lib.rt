@@ -1,6 +1,6 @@
 // Complex numbers of two f64, and the size that a coefficient may have.
 ghost use mathlib.Core.Path.{_≡_};
-ghost use Rattle.complex.specs.Complex.{sumOf, productOf, conjugateOf, isZero, partInRange, inRange, unitOfI};
+ghost use Rattle.complex.specs.Complex.{sumOf, productOf, conjugateOf, isZero, partInRange, inRange, isPlusZero, unitOfI};
 
 pub struct Complex {
     pub re: f64,
@@ -16,6 +16,16 @@ pub fn part_in_range(x: f64) -> bool
     ensures { λ r. ⌜ r ≡ partInRange x ⌝ }
 {
     x <= LIMIT && x >= -LIMIT
+}
+
+// Whether a float is +0 and no other value.
+pub fn is_plus_zero(x: f64) -> bool
+    ensures { λ r. ⌜ r ≡ isPlusZero x ⌝ }
+{
+    if x == 0.0 {
+        return f64::to_bits(x) == 0;
+    }
+    false
 }
 
 // i to the power `power`.

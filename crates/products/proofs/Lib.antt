@@ -1,6 +1,7 @@
 pub mod ListLaws
 pub mod RecordLaws
 pub mod SamePlaces
+pub mod SameLaws
 pub mod Canonical
 pub mod Cursor
 pub mod PushLaws

@@ -1,8 +1,8 @@
 -- Lists that the records of products are read by.
 use Prim.Native.Nat.{ℕ, zero, suc, _-_}
 use mathlib.Core.List.{List, [], _∷_, _++_}
-use mathlib.Core.Bool.{Bool, cond}
-use lib.Dec.{ltb}
+use mathlib.Core.Bool.{Bool, true, false, _&&_, cond}
+use lib.Dec.{ltb, eqb}
 use lib.ListN.{length, getD, replicate}
 
 -- the number at a place of a list, 0 past its end
@@ -24,3 +24,10 @@ larger a b = cond (ltb a b) b a
 
 abbrev pub smaller : ℕ → ℕ → ℕ
 smaller a b = cond (ltb a b) a b
+
+-- two lists have the same elements
+unfoldable pub sameList : List ℕ → List ℕ → Bool
+sameList [] [] = true
+sameList [] (y ∷ ys) = false
+sameList (x ∷ xs) [] = false
+sameList (x ∷ xs) (y ∷ ys) = eqb x y && sameList xs ys

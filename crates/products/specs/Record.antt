@@ -6,7 +6,7 @@ use mathlib.Core.Bool.{Bool, true, _&&_, cond}
 use lib.Dec.{ltb, leb, eqb}
 use lib.ListN.{length}
 use Rattle.letters.specs.Tests.{every}
-use Rattle.products.specs.Lists.{at, support, padded, larger}
+use Rattle.products.specs.Lists.{at, support, padded, larger, sameList}
 use Rattle.products.specs.declared.items.Items.{Items}
 
 -- the sites that a product can occupy at once, and the highest site
@@ -56,3 +56,7 @@ recordOf f span =
 -- f with the letter a on the site s
 abbrev pub update : (ℕ → ℕ) → ℕ → ℕ → ℕ → ℕ
 update f s a t = cond (eqb t s) a (f t)
+
+-- two records are the same
+unfoldable pub sameItems : Items → Items → Bool
+sameItems p q = eqb (p .count) (q .count) && (sameList (p .sites) (q .sites) && sameList (p .letters) (q .letters))

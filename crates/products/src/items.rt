@@ -2,7 +2,7 @@
 ghost use mathlib.Core.Path.{_≡_};
 ghost use mathlib.Core.Bool.{true};
 ghost use Prim.Native.Nat.{_<_};
-ghost use Rattle.products.specs.Record.{placeValid, valid, letterAt};
+ghost use Rattle.products.specs.Record.{placeValid, valid, letterAt, sameItems};
 ghost use Rattle.products.specs.Answers.{emptyProduct};
 use refusal::Outcome;
 use refusal::Refusal;
@@ -135,4 +135,24 @@ pub(crate) fn letter_at(p: Items, site: Site) -> u8
         i += 1;
     }
     0
+}
+
+// Whether two records are the same.
+pub fn same(p: Items, q: Items) -> bool
+    ensures { λ r. ⌜ r ≡ sameItems p q ⌝ }
+{
+    if p.count != q.count {
+        return false;
+    }
+    let mut i: usize = 0;
+    while i < CAPACITY {
+        if p.sites[i] != q.sites[i] {
+            return false;
+        }
+        if p.letters[i] != q.letters[i] {
+            return false;
+        }
+        i += 1;
+    }
+    true
 }
