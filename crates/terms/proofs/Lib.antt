@@ -1,0 +1,4 @@
+pub mod KeyedLaws
+pub mod SettingLaws
+pub mod SummedLaws
+pub mod Totals

@@ -1,0 +1,5 @@
+pub mod Keyed
+pub mod Kind
+pub mod Setting
+pub mod Chains
+pub mod Gaussian
