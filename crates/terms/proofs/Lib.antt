@@ -2,3 +2,6 @@ pub mod KeyedLaws
 pub mod SettingLaws
 pub mod SummedLaws
 pub mod Totals
+pub mod PlaceLaws
+pub mod EachLaws
+pub mod WriteLaws

@@ -1,0 +1,243 @@
+-- Valid sets of terms with complex coefficients: what the tests of one term and of the places past the count say, what a valid set
+-- holds, and that good terms make a valid set.
+-- Assumes nothing.
+use Prim.Native.Nat.{ℕ, _+_, _-_, _≤_, _<_}
+use native.Mathlib.Omega.{arith}
+use mathlib.Core.Path.{_≡_, refl, sym, ap, _∙_}
+use mathlib.Core.Bool.{Bool, true, false, not, _&&_, _||_}
+use mathlib.Core.List.{List, []}
+use lib.Dec.{leb, eqb}
+use lib.ListN.{length, drop, getD, replicate, length-append, length-replicate, length-drop}
+use lib.Seq.{drop-at, getD-take, length-take-le}
+use borrow.Author.Tests.{eq-eqb, eqb-true, le-leb, leb-true}
+use Rattle.letters.proofs.TestLaws.{and-true, and-left, and-right, and-false}
+use Rattle.complex.specs.Complex.{isZero, inRange, isPlusZero}
+use Rattle.complex.specs.declared.Complex.{Complex}
+use Rattle.complex.proofs.ZeroLaws.{plus-zero-only, plus-zero-passes}
+use Rattle.products.specs.Record.{valid, sameItems}
+use Rattle.products.specs.Answers.{emptyProduct}
+use Rattle.products.proofs.SameLaws.{same-self, same-equal}
+use Rattle.terms.specs.Keyed.{firstAt, each}
+use Rattle.terms.specs.Setting.{mostTerms, keyed}
+use Rattle.terms.proofs.KeyedLaws.{padded-take}
+use Rattle.terms.proofs.SettingLaws.{Held, held-past, different}
+use Rattle.operators.specs.Complexes.{complexTerms, blank, heldBy, filled, goodTerm, isBlank, validSet}
+use Rattle.operators.specs.declared.term_set.Term.{Term}
+use Rattle.operators.specs.declared.term_set.TermSet.{TermSet}
+use Rattle.operators.proofs.SetLaws.{held-filled}
+use Rattle.terms.proofs.EachLaws.{getD-any, each-follows, each-both, each-run, not-again}
+use Rattle.terms.proofs.PlaceLaws.{held-blanks}
+
+-- ---- blanks
+
+-- the zero record passes, and no other one
+pub blank-passes : isBlank blank ≡ true
+unfolding isBlank
+blank-passes = and-true (same-self emptyProduct) (and-true plus-zero-passes plus-zero-passes)
+
+pub blank-only : (t : Term) → isBlank t ≡ true → t ≡ blank
+unfolding isBlank
+blank-only t e =
+    let product = sameItems (t .items) emptyProduct in
+    let re = isPlusZero (t .coefficient .re) in
+    let im = isPlusZero (t .coefficient .im) in
+    let parts : (re && im) ≡ true = and-right product (re && im) e in
+    let p = same-equal (t .items) emptyProduct (and-left product (re && im) e) in
+    let r = plus-zero-only (t .coefficient .re) (and-left re im parts) in
+    let i = plus-zero-only (t .coefficient .im) (and-right re im parts) in
+    λ j. record { items = p j; coefficient = record { re = r j; im = i j } }
+
+-- ---- good terms
+
+-- a coefficient that a valid set holds
+abbrev pub goodCoefficient : Bool → Complex → Bool
+goodCoefficient zeros a = inRange a && (zeros || not (isZero a))
+
+-- the test of a term, the test of its coefficient taken together
+good-term-is : (zeros : Bool) (t : Term) (ts : List Term) → goodTerm zeros t ts ≡ (valid (t .items) && (goodCoefficient zeros (t .coefficient) && different complexTerms t ts))
+unfolding goodTerm
+good-term-is zeros t ts = regroup (valid (t .items)) (inRange (t .coefficient)) (zeros || not (isZero (t .coefficient))) (different complexTerms t ts)
+  where
+    regroup : (a b c d : Bool) → (a && (b && (c && d))) ≡ (a && ((b && c) && d))
+    regroup a true c d = refl
+    regroup a false c d = refl
+
+-- from its three tests
+pub good-by : (zeros : Bool) (t : Term) (ts : List Term) → valid (t .items) ≡ true → goodCoefficient zeros (t .coefficient) ≡ true → different complexTerms t ts ≡ true → goodTerm zeros t ts ≡ true
+good-by zeros t ts v c k = good-term-is zeros t ts ∙ and-true v (and-true c k)
+
+module _ (zeros : Bool) (t : Term) (ts : List Term) (e : goodTerm zeros t ts ≡ true) where
+  three : (valid (t .items) && (goodCoefficient zeros (t .coefficient) && different complexTerms t ts)) ≡ true
+  three = sym (good-term-is zeros t ts) ∙ e
+
+  pub good-product : valid (t .items) ≡ true
+  good-product = and-left (valid (t .items)) (goodCoefficient zeros (t .coefficient) && different complexTerms t ts) three
+
+  last-two : (goodCoefficient zeros (t .coefficient) && different complexTerms t ts) ≡ true
+  last-two = and-right (valid (t .items)) (goodCoefficient zeros (t .coefficient) && different complexTerms t ts) three
+
+  pub good-coefficient : goodCoefficient zeros (t .coefficient) ≡ true
+  good-coefficient = and-left (goodCoefficient zeros (t .coefficient)) (different complexTerms t ts) last-two
+
+  pub good-in-range : inRange (t .coefficient) ≡ true
+  good-in-range = and-left (inRange (t .coefficient)) (zeros || not (isZero (t .coefficient))) good-coefficient
+
+  pub good-zeros : (zeros || not (isZero (t .coefficient))) ≡ true
+  good-zeros = and-right (inRange (t .coefficient)) (zeros || not (isZero (t .coefficient))) good-coefficient
+
+  pub good-key : different complexTerms t ts ≡ true
+  good-key = and-right (goodCoefficient zeros (t .coefficient)) (different complexTerms t ts) last-two
+
+-- ---- the term at a place, which code reads as `getD (s .terms) i d`
+
+module _ (zeros : Bool) (s : TermSet) (i : ℕ) (d : Term) (whole : length (s .terms) ≡ mostTerms) (few : s .count ≤ mostTerms) (h : i < s .count) where
+  held-long : length (heldBy s) ≡ s .count
+  held-long = length-take-le (s .count) (s .terms) (omega arith)
+
+  read-is : getD (heldBy s) i blank ≡ getD (s .terms) i d
+  read-is = getD-any (heldBy s) i blank d (omega (arith, held-long)) ∙ getD-take (s .count) (s .terms) i d h
+
+  place-is : goodTerm zeros (getD (heldBy s) i blank) (drop (i + 1) (heldBy s)) ≡ (valid (getD (s .terms) i d .items) && (goodCoefficient zeros (getD (s .terms) i d .coefficient) && different complexTerms (getD (s .terms) i d) (drop (i + 1) (heldBy s))))
+  place-is = ap (λ (t : Term). goodTerm zeros t (drop (i + 1) (heldBy s))) read-is ∙ good-term-is zeros (getD (s .terms) i d) (drop (i + 1) (heldBy s))
+
+  -- its product is not valid
+  pub bad-product : valid (getD (s .terms) i d .items) ≡ false → false ≡ goodTerm zeros (getD (heldBy s) i blank) (drop (i + 1) (heldBy s))
+  bad-product v = rw (place-is, v)
+
+  -- its coefficient is none that a valid set holds
+  pub bad-coefficient : goodCoefficient zeros (getD (s .terms) i d .coefficient) ≡ false → false ≡ goodTerm zeros (getD (heldBy s) i blank) (drop (i + 1) (heldBy s))
+  bad-coefficient c = sym (place-is ∙ rw c (and-false (valid (getD (s .terms) i d .items)) false refl))
+
+  -- both are good: the search for its key past its place answers r
+  pub by-key : valid (getD (s .terms) i d .items) ≡ true → goodCoefficient zeros (getD (s .terms) i d .coefficient) ≡ true
+      → (r : ℕ) → r ≡ i + 1 + firstAt (keyed complexTerms (getD (s .terms) i d .items)) (drop (i + 1) (heldBy s))
+      → eqb r (s .count) ≡ goodTerm zeros (getD (heldBy s) i blank) (drop (i + 1) (heldBy s))
+  by-key v c r e =
+      let once = not-again (keyed complexTerms (getD (s .terms) i d .items)) (heldBy s) i (s .count) held-long h in
+      ap (λ (k : ℕ). eqb k (s .count)) e ∙ once ∙ sym (place-is ∙ rw (v, c))
+
+-- ---- a list of good terms: what each of them has
+
+module _ (zeros : Bool) (l : List Term) (e : each (goodTerm zeros) l ≡ true) where
+  pub good-products : each (λ t ts. valid (t .items)) l ≡ true
+  good-products = each-follows (goodTerm zeros) (λ t ts. valid (t .items)) (good-product zeros) l e
+
+  pub good-coefficients : each (λ t ts. goodCoefficient zeros (t .coefficient)) l ≡ true
+  good-coefficients = each-follows (goodTerm zeros) (λ t ts. goodCoefficient zeros (t .coefficient)) (good-coefficient zeros) l e
+
+  pub good-ranges : each (λ t ts. inRange (t .coefficient)) l ≡ true
+  good-ranges = each-follows (goodTerm zeros) (λ t ts. inRange (t .coefficient)) (good-in-range zeros) l e
+
+  pub good-keys : each (different complexTerms) l ≡ true
+  good-keys = each-follows (goodTerm zeros) (different complexTerms) (good-key zeros) l e
+
+-- no zero is held where none is allowed
+pub good-nonzero : (l : List Term) → each (goodTerm false) l ≡ true → each (λ t ts. not (isZero (t .coefficient))) l ≡ true
+good-nonzero l e = each-follows (goodTerm false) (λ t ts. not (isZero (t .coefficient))) (good-zeros false) l e
+
+-- ---- valid sets
+
+-- what a valid set has
+pub record Valid (zeros : Bool) (s : TermSet) : Type 0 where
+  pub whole : length (s .terms) ≡ mostTerms
+  pub few : s .count ≤ mostTerms
+  pub good : each (goodTerm zeros) (heldBy s) ≡ true
+  pub past : each (λ t ts. isBlank t) (drop (s .count) (s .terms)) ≡ true
+
+pub valid-parts : (zeros : Bool) (s : TermSet) → validSet zeros s ≡ true → Valid zeros s
+unfolding validSet
+valid-parts zeros s e =
+    let whole = eqb (length (s .terms)) mostTerms in
+    let few = leb (s .count) mostTerms in
+    let good = each (goodTerm zeros) (heldBy s) in
+    let past = each (λ t ts. isBlank t) (drop (s .count) (s .terms)) in
+    let e1 : (few && (good && past)) ≡ true = and-right whole (few && (good && past)) e in
+    let e2 : (good && past) ≡ true = and-right few (good && past) e1 in
+    record {
+      whole = eqb-true (length (s .terms)) mostTerms (and-left whole (few && (good && past)) e);
+      few = leb-true (s .count) mostTerms (and-left few (good && past) e1);
+      good = and-left good past e2;
+      past = and-right good past e2;
+    }
+
+pub valid-by : (zeros : Bool) (s : TermSet) → Valid zeros s → validSet zeros s ≡ true
+unfolding validSet
+valid-by zeros s v =
+    and-true (eq-eqb (length (s .terms)) mostTerms (v .whole)) (and-true (le-leb (s .count) mostTerms (v .few)) (and-true (v .good) (v .past)))
+
+-- every value of the struct passes the first test: the others decide
+pub valid-is : (zeros : Bool) (s : TermSet) → length (s .terms) ≡ mostTerms → validSet zeros s ≡ (leb (s .count) mostTerms && (each (goodTerm zeros) (heldBy s) && each (λ t ts. isBlank t) (drop (s .count) (s .terms))))
+unfolding validSet
+valid-is zeros s whole = rw (eq-eqb (length (s .terms)) mostTerms whole)
+
+module _ (zeros : Bool) (s : TermSet) (e : validSet zeros s ≡ true) where
+  -- its places are its terms, and blanks past them
+  pub valid-held : Held blank (s .count) (s .terms)
+  valid-held =
+      let v = valid-parts zeros s e in
+      held-blanks isBlank blank blank-only (s .count) (s .terms) (v .whole) (v .few) (v .past)
+
+  pub valid-count : s .count ≤ mostTerms
+  valid-count = valid-parts zeros s e .few
+
+  -- it is the set that holds its terms
+  pub valid-own : s ≡ filled (heldBy s)
+  unfolding filled
+  valid-own = λ j. record { count = sym (valid-held .long) j; terms = valid-held .pads j }
+
+  -- its terms are good, and so are their products, coefficients and keys
+  pub valid-good : each (goodTerm zeros) (heldBy s) ≡ true
+  valid-good = valid-parts zeros s e .good
+
+  pub valid-products : each (λ t ts. valid (t .items)) (heldBy s) ≡ true
+  valid-products = good-products zeros (heldBy s) valid-good
+
+  pub valid-ranges : each (λ t ts. inRange (t .coefficient)) (heldBy s) ≡ true
+  valid-ranges = good-ranges zeros (heldBy s) valid-good
+
+  pub valid-keys : each (different complexTerms) (heldBy s) ≡ true
+  valid-keys = good-keys zeros (heldBy s) valid-good
+
+-- it holds no zero where none is allowed
+pub valid-nonzero : (s : TermSet) → validSet false s ≡ true → each (λ t ts. not (isZero (t .coefficient))) (heldBy s) ≡ true
+valid-nonzero s e = good-nonzero (heldBy s) (valid-good false s e)
+
+-- ---- good terms make a valid set
+
+-- from tests of each term alone, and of keys
+pub all-good : (zeros : Bool) (l : List Term) → each (λ t ts. valid (t .items)) l ≡ true → each (λ t ts. goodCoefficient zeros (t .coefficient)) l ≡ true → each (different complexTerms) l ≡ true
+    → each (goodTerm zeros) l ≡ true
+all-good zeros l v c k =
+    each-both (λ t ts. valid (t .items)) (λ t ts. goodCoefficient zeros (t .coefficient) && different complexTerms t ts) (goodTerm zeros)
+    (λ t ts a b. good-by zeros t ts a (and-left (goodCoefficient zeros (t .coefficient)) (different complexTerms t ts) b) (and-right (goodCoefficient zeros (t .coefficient)) (different complexTerms t ts) b))
+    l
+    v
+    (each-both (λ t ts. goodCoefficient zeros (t .coefficient)) (different complexTerms) (λ t ts. goodCoefficient zeros (t .coefficient) && different complexTerms t ts) (λ t ts a b. and-true a b) l c k)
+
+-- coefficients in range, where zeros are allowed; in range and none of them zero, where they are not
+pub coefficients-with-zeros : (l : List Term) → each (λ t ts. inRange (t .coefficient)) l ≡ true → each (λ t ts. goodCoefficient true (t .coefficient)) l ≡ true
+coefficients-with-zeros l e = each-follows (λ t ts. inRange (t .coefficient)) (λ t ts. goodCoefficient true (t .coefficient)) (λ t ts a. and-true a refl) l e
+
+pub coefficients-without-zeros : (l : List Term) → each (λ t ts. inRange (t .coefficient)) l ≡ true → each (λ t ts. not (isZero (t .coefficient))) l ≡ true → each (λ t ts. goodCoefficient false (t .coefficient)) l ≡ true
+coefficients-without-zeros l e g =
+    each-both (λ t ts. inRange (t .coefficient)) (λ t ts. not (isZero (t .coefficient))) (λ t ts. goodCoefficient false (t .coefficient)) (λ t ts a b. and-true a b) l e g
+
+-- the set that holds at most the most terms, each of them good
+pub filled-valid : (zeros : Bool) (l : List Term) → length l ≤ mostTerms → each (goodTerm zeros) l ≡ true → validSet zeros (filled l) ≡ true
+unfolding filled
+filled-valid zeros l few good =
+    let n = length-append l (replicate (mostTerms - length l) blank) in
+    let m = length-replicate (mostTerms - length l) blank in
+    valid-by zeros (filled l) (record {
+      whole = n ∙ omega arith;
+      few = few;
+      good = ap (each (goodTerm zeros)) (held-filled l) ∙ good;
+      past =
+          ap (each (λ t ts. isBlank t)) (drop-at l (replicate (mostTerms - length l) blank) (length l) refl)
+          ∙ each-run isBlank blank blank-passes (mostTerms - length l);
+    })
+
+-- the empty set
+pub empty-valid : (zeros : Bool) → validSet zeros (filled []) ≡ true
+unfolding each
+empty-valid zeros = filled-valid zeros [] (omega arith) refl

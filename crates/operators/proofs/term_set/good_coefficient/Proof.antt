@@ -1,0 +1,32 @@
+-- `term_set::good_coefficient`: each return by the tests that led there.
+-- Assumes nothing.
+use mathlib.Core.Path.{sym, _∙_}
+use borrow.Author.Needs.{needs}
+use borrow.Author.Tests.{not-true, not-false}
+use Rattle.operators.proofs.term_set.good_coefficient.Statement.{statement}
+use Rattle.operators.proofs.term_set.good_coefficient.Tie as tie
+
+in-range-requires : tie.Need-in-range-requires
+in-range-requires c κs = search needs
+
+returns : tie.Need-returns
+returns c =
+    let far = sym (c .before .in-range .ensures) ∙ not-true _ (c .if1 .taken) in
+    rw far
+
+returns-2 : tie.Need-returns-2
+returns-2 c =
+    let near = sym (c .before .before .in-range .ensures) ∙ not-false _ (c .before .if1 .left) in
+    rw (near, c .if2 .taken)
+
+is-zero-requires : tie.Need-is-zero-requires
+is-zero-requires c κs = search needs
+
+returns-3 : tie.Need-returns-3
+returns-3 c =
+    let near = sym (c .before .before .before .in-range .ensures) ∙ not-false _ (c .before .before .if1 .left) in
+    rw (near, c .before .if2 .left, c .is-zero .ensures)
+
+pub good-coefficient-spec : {M : Type 1} → statement M
+good-coefficient-spec =
+    tie.close (tie.spec in-range-requires returns returns-2 is-zero-requires returns-3)

@@ -1,0 +1,66 @@
+-- Sets of terms with complex coefficients: the terms that a record holds, the record that holds given terms, and which records are valid.
+-- Document 01, `an array of 64 term records, each a product and its coefficient, with a count`, and number 0.
+use Prim.Native.Nat.{ℕ}
+use mathlib.Core.Bool.{Bool, true, not, _&&_, _||_}
+use mathlib.Core.List.{List, []}
+use lib.Dec.{leb, eqb}
+use lib.ListN.{length, take, drop}
+use Rattle.complex.specs.Complex.{plusZero, sumOf, productOf, conjugateOf, unitOfI, isZero, inRange, isPlusZero}
+use Rattle.complex.specs.declared.Complex.{Complex}
+use Rattle.products.specs.Record.{valid, sameItems}
+use Rattle.products.specs.Answers.{emptyProduct}
+use Rattle.products.specs.declared.items.Items.{Items}
+use Rattle.terms.specs.Keyed.{has, padded, each}
+use Rattle.terms.specs.Kind.{Terms, Products}
+use Rattle.terms.specs.Setting.{mostTerms, keyed}
+use Rattle.operators.specs.declared.term_set.Term.{Term}
+use Rattle.operators.specs.declared.term_set.TermSet.{TermSet}
+
+abbrev pub zeroComplex : Complex
+zeroComplex = record { re = plusZero; im = plusZero }
+
+abbrev pub termOf : Items → Complex → Term
+termOf k a = record { items = k; coefficient = a }
+
+-- terms of a product and a complex coefficient; sums are rounded, and a coefficient that is zero in both parts counts as zero
+abbrev pub complexTerms : Terms Items Complex
+complexTerms =
+    record {
+      Term = Term;
+      term = termOf;
+      key = λ t. t .items;
+      coefficient = λ t. t .coefficient;
+      same = sameItems;
+      zero = zeroComplex;
+      sum = sumOf;
+      isZero = isZero;
+    }
+
+abbrev pub complexProducts : Products Complex
+complexProducts = record { product = productOf; conjugate = conjugateOf; unit = unitOfI }
+
+-- what stands past the count
+abbrev pub blank : Term
+blank = termOf emptyProduct zeroComplex
+
+-- the terms that a set holds, and the set that holds given terms
+abbrev pub heldBy : TermSet → List Term
+heldBy s = take (s .count) (s .terms)
+
+unfoldable pub filled : List Term → TermSet
+filled l = record { count = length l; terms = padded mostTerms blank l }
+
+-- a held term: a valid product, a coefficient in range that is not zero (where zeros are not allowed), and no later term with its key
+unfoldable pub goodTerm : Bool → Term → List Term → Bool
+goodTerm zeros t ts =
+    valid (t .items) && (inRange (t .coefficient) && ((zeros || not (isZero (t .coefficient))) && not (has (keyed complexTerms (t .items)) ts)))
+
+-- a term of zeros, +0 in its floats
+unfoldable pub isBlank : Term → Bool
+isBlank t = sameItems (t .items) emptyProduct && (isPlusZero (t .coefficient .re) && isPlusZero (t .coefficient .im))
+
+-- what number 0 lets pass; only a `PauliOperator` may hold zeros
+unfoldable pub validSet : Bool → TermSet → Bool
+validSet zeros s =
+    eqb (length (s .terms)) mostTerms && (leb (s .count) mostTerms
+    && (each (goodTerm zeros) (heldBy s) && each (λ t ts. isBlank t) (drop (s .count) (s .terms))))

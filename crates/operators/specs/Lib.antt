@@ -1,0 +1,3 @@
+pub mod Complexes
+pub mod Answers
+pub mod Matrices

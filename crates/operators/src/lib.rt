@@ -1,0 +1,2 @@
+// Sets of terms: operators and Hamiltonians.
+pub mod term_set;

@@ -1,0 +1,48 @@
+-- Tests of each element of a list: one that follows from another, runs of one element, and the search for a key that must not come again.
+-- For any element type.
+-- Assumes nothing.
+use Prim.Native.Nat.{ℕ, zero, suc, _+_, _<_}
+use native.Mathlib.Nat.{le-of-suc-le-suc, not-suc-le-zero}
+use native.Mathlib.Omega.{arith}
+use mathlib.Core.Path.{_≡_, refl, sym, ap, _∙_}
+use mathlib.Core.Bool.{Bool, true, not}
+use mathlib.Core.List.{List, [], _∷_}
+use lib.Dec.{eqb}
+use lib.ListN.{length, getD, drop, replicate, length-drop}
+use borrow.Author.Tests.{eq-eqb, ne-eqb}
+use Rattle.terms.specs.Keyed.{firstAt, has, each}
+use Rattle.terms.proofs.KeyedLaws.{each-cons, each-head, each-tail, has-true, has-false, by-test}
+
+module _ {A : Type 0} where
+  -- what is read past the end does not matter below it
+  pub getD-any : (l : List A) (i : ℕ) (d e : A) → i < length l → getD l i d ≡ getD l i e
+  getD-any [] i d e h = absurd (not-suc-le-zero h)
+  getD-any (x ∷ l) zero d e h = refl
+  getD-any (x ∷ l) (suc i) d e h = getD-any l i d e (le-of-suc-le-suc h)
+
+  -- a test that follows from another one
+  pub each-follows : (p q : A → List A → Bool) → ((x : A) (l : List A) → p x l ≡ true → q x l ≡ true) → (l : List A) → each p l ≡ true → each q l ≡ true
+  unfolding each
+  each-follows p q f [] e = refl
+  each-follows p q f (x ∷ l) e = each-cons q x l (f x l (each-head p x l e)) (each-follows p q f l (each-tail p x l e))
+
+  -- a test that follows from two
+  pub each-both : (p q r : A → List A → Bool) → ((x : A) (l : List A) → p x l ≡ true → q x l ≡ true → r x l ≡ true) → (l : List A) → each p l ≡ true → each q l ≡ true → each r l ≡ true
+  unfolding each
+  each-both p q r f [] e g = refl
+  each-both p q r f (x ∷ l) e g =
+      each-cons r x l (f x l (each-head p x l e) (each-head q x l g)) (each-both p q r f l (each-tail p x l e) (each-tail q x l g))
+
+  -- a run of an element that passes
+  pub each-run : (p : A → Bool) (z : A) → p z ≡ true → (n : ℕ) → each (λ x xs. p x) (replicate n z) ≡ true
+  unfolding each
+  each-run p z e zero = refl
+  each-run p z e (suc n) = each-cons (λ x xs. p x) z (replicate n z) e (each-run p z e n)
+
+  -- a search past the place i that ends at the count n says that no later element has the key
+  pub not-again : (test : A → Bool) (l : List A) (i n : ℕ) → length l ≡ n → i < n → eqb (i + 1 + firstAt test (drop (i + 1) l)) n ≡ not (has test (drop (i + 1) l))
+  not-again test l i n long h =
+      let k = length-drop (i + 1) l in
+      by-test (has test (drop (i + 1) l))
+      (λ e. let f = has-true test (drop (i + 1) l) e in ne-eqb (i + 1 + firstAt test (drop (i + 1) l)) n (λ g. omega arith) ∙ ap not (sym e))
+      (λ e. let f = has-false test (drop (i + 1) l) e in eq-eqb (i + 1 + firstAt test (drop (i + 1) l)) n (omega arith) ∙ ap not (sym e))

@@ -1,0 +1,125 @@
+-- The loops on a set's places, for any kind of terms: the search for a key from a place on, and the closing up over a gap. A set has its count n
+-- and its places t. Then what the place that a search answered says of the terms, and places that a test takes for blanks.
+-- Assumes nothing.
+use Prim.Native.Nat.{ℕ, _+_, _-_, _≤_, _<_}
+use native.Mathlib.Nat.{le-antisymm}
+use native.Mathlib.Omega.{arith}
+use mathlib.Core.Path.{_≡_, refl, sym, ap, _∙_}
+use mathlib.Core.Bool.{Bool, true, false}
+use mathlib.Core.List.{List, [], _∷_, _++_, map}
+use lib.ListN.{length, take, drop, getD, set, replicate, length-drop}
+use lib.Seq.{getD-take, length-take-le}
+use Rattle.terms.specs.Keyed.{firstAt, held, padded, omitted, each}
+use Rattle.terms.specs.Kind.{Terms}
+use Rattle.terms.specs.Setting.{mostTerms, keyed, coefficientAt}
+use Rattle.terms.proofs.KeyedLaws.{each-head, each-tail, passes, skips, none-left, there, nowhere, firstAt-le, length-omitted, close-turn, open-up, closed-up, headOr-one, headOr-none}
+use Rattle.terms.proofs.SettingLaws.{Held, held-past}
+
+-- ---- the search: the places from `from` on that are below i do not have the key
+pub record Searched {A : Type 0} (test : A → Bool) (n : ℕ) (t : List A) (from i : ℕ) : Type 0 where
+  pub few : n ≤ length t
+  pub within : i ≤ n
+  pub place : from + firstAt test (drop from (take n t)) ≡ i + firstAt test (drop i (take n t))
+
+module _ {A : Type 0} {test : A → Bool} {n : ℕ} {t : List A} {from : ℕ} where
+  pub searched-none : n ≤ length t → from ≤ n → Searched test n t from from
+  searched-none few h = record { few = few; within = h; place = refl }
+
+  pub searched-more : {i : ℕ} (d : A) → Searched test n t from i → i < n → test (getD t i d) ≡ false → Searched test n t from (i + 1)
+  searched-more {i} d s h e =
+      let long = length-take-le n t (s .few) in
+      let p = skips test (take n t) i d (omega arith) (ap test (getD-take n t i d h) ∙ e) in
+      record { few = s .few; within = omega arith; place = omega (arith, s .place) }
+
+  pub searched-found : {i : ℕ} (d : A) → Searched test n t from i → i < n → test (getD t i d) ≡ true → i ≡ from + firstAt test (drop from (take n t))
+  searched-found {i} d s h e =
+      let long = length-take-le n t (s .few) in
+      let p = passes test (take n t) i d (omega arith) (ap test (getD-take n t i d h) ∙ e) in
+      omega (arith, s .place)
+
+  pub searched-done : {i : ℕ} → Searched test n t from i → n ≤ i → i ≡ from + firstAt test (drop from (take n t))
+  searched-done {i} s h =
+      let long = length-take-le n t (s .few) in
+      let p = none-left test (take n t) i (omega arith) in
+      omega (arith, s .place)
+
+-- ---- closing up: u is t with the terms after the place `at` moved down by one, as far as the place i
+pub record Closing {A : Type 0} (at n : ℕ) (t u : List A) (i : ℕ) : Type 0 where
+  pub whole : length t ≡ mostTerms
+  pub few : n ≤ mostTerms
+  pub past : at ≤ i
+  pub within : i + 1 ≤ n
+  pub places : u ≡ take i (omitted at (take n t)) ++ drop i t
+
+module _ {A : Type 0} {at n : ℕ} {t : List A} where
+  pub closing-none : length t ≡ mostTerms → n ≤ mostTerms → at < n → Closing at n t t at
+  closing-none whole few h =
+      record { whole = whole; few = few; past = omega arith; within = omega arith; places = open-up at n t h (omega arith) }
+
+  pub closing-more : {u : List A} {i : ℕ} (d : A) → Closing at n t u i → i + 1 < n → Closing at n t (set u i (getD u (i + 1) d)) (i + 1)
+  closing-more {u} {i} d s h =
+      record {
+        whole = s .whole;
+        few = s .few;
+        past = omega (arith, s .past);
+        within = omega arith;
+        places = close-turn at i n t u d (s .past) h (omega (arith, s .whole, s .few)) (s .places);
+      }
+
+  -- the blank is put into the last place
+  pub closing-done : {u : List A} {i : ℕ} (blank : A) → Held blank n t → Closing at n t u i → n ≤ i + 1 → set u i blank ≡ padded mostTerms blank (omitted at (take n t))
+  closing-done {u} {i} blank h s e =
+      let l = take n t in
+      ap (λ (x : List A). set x i blank) (s .places ∙ ap (λ (x : List A). take i (omitted at l) ++ drop i x) (h .pads))
+      ∙ closed-up mostTerms at blank l i (omega (arith, h .long, s .past, s .within)) (omega (arith, h .long, h .few)) (omega (arith, h .long, s .within))
+
+  -- and the count is one less
+  pub closing-count : {u : List A} {i : ℕ} → Closing at n t u i → n - 1 ≡ length (omitted at (take n t))
+  closing-count s =
+      let long = length-take-le n t (omega (arith, s .whole, s .few)) in
+      let o = length-omitted at (take n t) (omega (arith, s .past, s .within)) in
+      omega (arith, s .past, s .within)
+
+-- ---- the place i that a search of all terms answered, in a set of n terms
+module _ {K N : Type 0} (S : Terms K N) (k : K) (n : ℕ) (t : List (S .Term)) (few : n ≤ length t) (i : ℕ) (f : i ≡ firstAt (keyed S k) (take n t)) where
+  -- below the count it is the key's
+  place-held : (d : S .Term) → i < n → held (keyed S k) (take n t) ≡ getD t i d ∷ []
+  place-held d h =
+      let long = length-take-le n t few in
+      there (keyed S k) d (take n t) (omega arith) .held
+      ∙ ap (λ (j : ℕ). getD (take n t) j d ∷ []) (sym f)
+      ∙ ap (λ (x : S .Term). x ∷ []) (getD-take n t i d h)
+
+  pub place-value : {B : Type 0} (g : S .Term → B) (d : S .Term) → i < n → g (getD t i d) ∷ [] ≡ map g (held (keyed S k) (take n t))
+  place-value g d h = ap (map g) (sym (place-held d h))
+
+  pub place-coefficient : (d : S .Term) → i < n → S .coefficient (getD t i d) ≡ coefficientAt S k (take n t)
+  unfolding coefficientAt
+  place-coefficient d h = rw (place-held d h) (sym (headOr-one (S .coefficient) (S .zero) (getD t i d)))
+
+  -- and else the key is free
+  free-held : n ≤ i → held (keyed S k) (take n t) ≡ []
+  free-held h =
+      let long = length-take-le n t few in
+      nowhere (keyed S k) (take n t) (le-antisymm (firstAt-le (keyed S k) (take n t)) (omega arith)) .held
+
+  pub free-value : {B : Type 0} (g : S .Term → B) → n ≤ i → [] ≡ map g (held (keyed S k) (take n t))
+  free-value g h = ap (map g) (sym (free-held h))
+
+  pub free-coefficient : n ≤ i → S .zero ≡ coefficientAt S k (take n t)
+  unfolding coefficientAt
+  free-coefficient h = rw (free-held h) (sym (headOr-none (S .coefficient) (S .zero)))
+
+-- ---- places that pass a test for blanks, which only the blank passes
+module _ {A : Type 0} (test : A → Bool) (blank : A) (only : (x : A) → test x ≡ true → x ≡ blank) where
+  blanks-only : (l : List A) → each (λ x xs. test x) l ≡ true → l ≡ replicate (length l) blank
+  blanks-only [] e = refl
+  blanks-only (x ∷ l) e =
+      let h = only x (each-head (λ x xs. test x) x l e) in
+      let r = blanks-only l (each-tail (λ x xs. test x) x l e) in
+      λ j. h j ∷ r j
+
+  pub held-blanks : (n : ℕ) (t : List A) → length t ≡ mostTerms → n ≤ mostTerms → each (λ x xs. test x) (drop n t) ≡ true → Held blank n t
+  held-blanks n t whole few past =
+      let m : length (drop n t) ≡ mostTerms - n = length-drop n t ∙ ap (λ (k : ℕ). k - n) whole in
+      held-past blank n t whole few (blanks-only (drop n t) past ∙ ap (λ (k : ℕ). replicate k blank) m)
