@@ -1,3 +1,5 @@
 pub mod SetLaws
 pub mod ValidLaws
+pub mod ChainLaws
+pub mod GatherLaws
 pub mod OperatorTheorems

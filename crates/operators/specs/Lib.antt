@@ -1,3 +1,5 @@
 pub mod Complexes
 pub mod Answers
 pub mod Matrices
+pub mod Chained
+pub mod Kinds

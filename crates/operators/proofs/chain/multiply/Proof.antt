@@ -1,0 +1,55 @@
+-- `chain::multiply`: the products of two valid sets' terms, as a chain answers them.
+-- Assumes nothing.
+use mathlib.Core.Path.{sym, _∙_}
+use borrow.Author.Tests.{not-true, not-false}
+use borrow.Author.Needs.{needs}
+use Rattle.operators.specs.Answers.{multiplySets}
+use Rattle.operators.proofs.ValidLaws.{valid-own}
+use Rattle.operators.proofs.chain.multiply.Statement.{statement}
+use Rattle.operators.proofs.chain.multiply.Tie as tie
+
+is-valid-requires : tie.Need-is-valid-requires
+is-valid-requires c κs = search needs
+
+returns : tie.Need-returns
+unfolding multiplySets
+returns c = let bad = sym (c .before .is-valid .ensures) ∙ not-true _ (c .if1 .taken) in rw bad
+
+is-valid-requires-2 : tie.Need-is-valid-requires-2
+is-valid-requires-2 c κs = search needs
+
+returns-2 : tie.Need-returns-2
+unfolding multiplySets
+returns-2 c =
+    let good = sym (c .before .before .before .is-valid .ensures) ∙ not-false _ (c .before .before .if1 .left) in
+    let bad = sym (c .before .is-valid2 .ensures) ∙ not-true _ (c .if2 .taken) in
+    rw (good, bad)
+
+multiplied-requires : tie.Need-multiplied-requires
+multiplied-requires c κs = (
+  valid-own _ _ (sym (c .before .before .before .is-valid .ensures) ∙ not-false _ (c .before .before .if1 .left)),
+  valid-own _ _ (sym (c .before .is-valid2 .ensures) ∙ not-false _ (c .if2 .left)),
+)
+
+finished-requires : tie.Need-finished-requires
+finished-requires c κs = record { terms = _; is = c .multiplied .ensures }
+
+returns-3 : tie.Need-returns-3
+unfolding multiplySets
+returns-3 c =
+    let two = c .before .before in
+    let good = sym (two .before .before .before .is-valid .ensures) ∙ not-false _ (two .before .before .if1 .left) in
+    let good2 = sym (two .before .is-valid2 .ensures) ∙ not-false _ (two .if2 .left) in
+    rw (good, good2) (c .finished .ensures _ (c .before .multiplied .ensures))
+
+pub multiply-spec : {M : Type 1} → statement M
+multiply-spec =
+    tie.close
+    (tie.spec
+    is-valid-requires
+    returns
+    is-valid-requires-2
+    returns-2
+    multiplied-requires
+    finished-requires
+    returns-3)

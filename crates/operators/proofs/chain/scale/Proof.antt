@@ -1,0 +1,65 @@
+-- `chain::scale`: a valid set's terms are scaled in their places, and then judged.
+-- Assumes nothing.
+use mathlib.Core.Path.{sym, _∙_}
+use borrow.Author.Tests.{not-true, not-false}
+use borrow.Author.Needs.{needs}
+use Rattle.operators.specs.Answers.{scaleSet}
+use Rattle.operators.proofs.SetLaws.{own-from}
+use Rattle.operators.proofs.ValidLaws.{valid-own}
+use Rattle.operators.proofs.ChainLaws.{filled-range, finally-out, finally-in}
+use Rattle.operators.proofs.chain.scale.Statement.{statement}
+use Rattle.operators.proofs.chain.scale.Tie as tie
+
+is-valid-requires : tie.Need-is-valid-requires
+is-valid-requires c κs = search needs
+
+returns : tie.Need-returns
+unfolding scaleSet
+returns c = let bad = sym (c .before .is-valid .ensures) ∙ not-true _ (c .if1 .taken) in rw bad
+
+in-range-requires : tie.Need-in-range-requires
+in-range-requires c κs = search needs
+
+returns-2 : tie.Need-returns-2
+unfolding scaleSet
+returns-2 c =
+    let good = sym (c .before .before .before .is-valid .ensures) ∙ not-false _ (c .before .before .if1 .left) in
+    let bad = sym (c .before .in-range .ensures) ∙ not-true _ (c .if2 .taken) in
+    rw (good, bad)
+
+scaled-requires : tie.Need-scaled-requires
+scaled-requires c κs = valid-own _ _ (sym (c .before .before .before .is-valid .ensures) ∙ not-false _ (c .before .before .if1 .left))
+
+all-in-range-requires : tie.Need-all-in-range-requires
+all-in-range-requires c κs = own-from _ _ (c .scaled .ensures)
+
+returns-3 : tie.Need-returns-3
+unfolding scaleSet
+returns-3 c =
+    let two = c .before .before .before in
+    let good = sym (two .before .before .before .is-valid .ensures) ∙ not-false _ (two .before .before .if1 .left) in
+    let small = sym (two .before .in-range .ensures) ∙ not-false _ (two .if2 .left) in
+    let bad = filled-range _ _ _ (c .before .before .scaled .ensures) (sym (c .before .all-in-range .ensures) ∙ not-true _ (c .if3 .taken)) in
+    rw (good, small) (finally-out _ _ bad)
+
+returns-4 : tie.Need-returns-4
+unfolding scaleSet
+returns-4 c =
+    let two = c .before .before .before in
+    let good = sym (two .before .before .before .is-valid .ensures) ∙ not-false _ (two .before .before .if1 .left) in
+    let small = sym (two .before .in-range .ensures) ∙ not-false _ (two .if2 .left) in
+    let fine = filled-range _ _ _ (c .before .before .scaled .ensures) (sym (c .before .all-in-range .ensures) ∙ not-false _ (c .if3 .left)) in
+    rw (good, small) (finally-in _ _ _ (c .before .before .scaled .ensures) fine)
+
+pub scale-spec : {M : Type 1} → statement M
+scale-spec =
+    tie.close
+    (tie.spec
+    is-valid-requires
+    returns
+    in-range-requires
+    returns-2
+    scaled-requires
+    all-in-range-requires
+    returns-3
+    returns-4)

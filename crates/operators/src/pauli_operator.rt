@@ -1,0 +1,121 @@
+// Operators of Pauli products: sums of products with complex coefficients, the only sets that may hold zeros.
+ghost use mathlib.Core.Path.{_≡_};
+ghost use mathlib.Core.Bool.{true};
+ghost use mathlib.Core.List.{[]};
+ghost use Rattle.letters.specs.Matrices.{pauli};
+ghost use Rattle.operators.specs.Complexes.{filled};
+ghost use Rattle.operators.specs.Answers.{saidGet, getTerm, setTerm, addTerm, multiplySets, conjugateSet, scaleSet};
+ghost use Rattle.operators.specs.Kinds.{toldPauliSet, toldPauli};
+use crate::term_set::GetAnswer;
+use crate::term_set::SetAnswer;
+use crate::term_set::TermSet;
+use complex::Complex;
+use letters::Kind;
+use products::pauli_product::PauliProduct;
+use refusal::Outcome;
+
+pub struct PauliOperator {
+    pub terms: TermSet,
+}
+
+pub struct PauliOperatorAfterSet {
+    pub answer: SetAnswer,
+    pub operator: PauliOperator,
+}
+
+pub struct PauliOperatorAnswer {
+    pub outcome: Outcome,
+    pub operator: PauliOperator,
+}
+
+impl PauliOperator {
+    // The operator without terms.
+    pub fn new() -> PauliOperator
+        ensures { λ r. ⌜ r .terms ≡ filled [] ⌝ }
+    {
+        let terms = crate::term_set::empty_set();
+        PauliOperator { terms: terms }
+    }
+
+    // The coefficient of a product, zero where there is none.
+    pub fn get(self, key: PauliProduct) -> GetAnswer
+        ensures { λ r. ⌜ saidGet r ≡ getTerm true (self .terms) (key .items) ⌝ }
+    {
+        let s = self.terms;
+        let k = key.items;
+        crate::term_set::get(true, s, k)
+    }
+
+    // The coefficient of a product set; what was there before is answered.
+    pub fn set(self, key: PauliProduct, value: Complex) -> PauliOperatorAfterSet
+        ensures { λ r. ⌜ toldPauliSet r ≡ setTerm true (self .terms) (key .items) value ⌝ }
+    {
+        let s = self.terms;
+        let k = key.items;
+        let a = crate::term_set::set(true, s, k, value);
+        let answer = a.answer;
+        let set = a.set;
+        PauliOperatorAfterSet {
+            answer: answer,
+            operator: PauliOperator { terms: set },
+        }
+    }
+
+    // A coefficient added to that of a product.
+    pub fn add_operator_product(self, key: PauliProduct, value: Complex) -> PauliOperatorAnswer
+        ensures { λ r. ⌜ toldPauli r ≡ addTerm true (self .terms) (key .items) value ⌝ }
+    {
+        let s = self.terms;
+        let k = key.items;
+        let a = crate::term_set::add(true, s, k, value);
+        let outcome = a.outcome;
+        let set = a.set;
+        PauliOperatorAnswer {
+            outcome: outcome,
+            operator: PauliOperator { terms: set },
+        }
+    }
+
+    // The product of two operators.
+    pub fn multiply(self, right: PauliOperator) -> PauliOperatorAnswer
+        ensures { λ r. ⌜ toldPauli r ≡ multiplySets pauli true (self .terms) (right .terms) ⌝ }
+    {
+        let s = self.terms;
+        let t = right.terms;
+        let a = crate::chain::multiply(Kind::Pauli, true, s, t);
+        let outcome = a.outcome;
+        let set = a.set;
+        PauliOperatorAnswer {
+            outcome: outcome,
+            operator: PauliOperator { terms: set },
+        }
+    }
+
+    // The conjugate transpose.
+    pub fn hermitian_conjugate(self) -> PauliOperatorAnswer
+        ensures { λ r. ⌜ toldPauli r ≡ conjugateSet pauli true (self .terms) ⌝ }
+    {
+        let s = self.terms;
+        let a = crate::chain::conjugate(Kind::Pauli, true, s);
+        let outcome = a.outcome;
+        let set = a.set;
+        PauliOperatorAnswer {
+            outcome: outcome,
+            operator: PauliOperator { terms: set },
+        }
+    }
+
+    // Every coefficient times a number; terms that become zero stay.
+    pub fn scale(self, value: Complex) -> PauliOperatorAnswer
+        ensures { λ r. ⌜ toldPauli r ≡ scaleSet (self .terms) value ⌝ }
+    {
+        let s = self.terms;
+        let a = crate::chain::scale(s, value);
+        let outcome = a.outcome;
+        let set = a.set;
+        PauliOperatorAnswer {
+            outcome: outcome,
+            operator: PauliOperator { terms: set },
+        }
+    }
+}
