@@ -9,7 +9,7 @@ use native.Mathlib.Nat.{le-antisymm, not-suc-le-zero}
 use native.Mathlib.Decide.{ℕ-discrete, decLt}
 use native.Mathlib.Omega.{arith}
 use lib.Dec.{ltb, leb, eqb}
-use lib.ListN.{length}
+use lib.ListN.{length, List·getD-eq-default}
 use borrow.Author.Tests.{lt-ltb, le-ltb, le-leb, lt-leb, leb-true, ltb-true, eqb-true, eq-eqb, ne-eqb}
 use Rattle.letters.specs.Tests.{every}
 use Rattle.letters.proofs.TestLaws.{and-true, and-left, and-right, and-false, every-at, every-false}
@@ -232,6 +232,10 @@ reach-none p h = rw (eq-eqb (p .count) 0 h)
 pub reach-last : (p : Items) → 0 < p .count → reach p ≡ suc (at (p .sites) (p .count - 1))
 unfolding reach
 reach-last p h = rw (ne-eqb (p .count) 0 (λ e. omega arith))
+
+-- a count past the array reads as site 0
+pub reach-past : (p : Items) → length (p .sites) ≡ capacity → capacity < p .count → reach p ≡ 1
+reach-past p e h = reach-last p (omega arith) ∙ ap suc (List·getD-eq-default (p .sites) 0 (omega arith))
 
 pub site-below-reach : (p : Items) → valid p ≡ true → (i : ℕ) → i < p .count → at (p .sites) i < reach p
 site-below-reach p v i l =

@@ -70,9 +70,9 @@ unit-is k h = rw (one-mul (2 ^ k)) (mod-eq-of-lt (pow-lt {i = k} {j = 64} (omega
 pub unit-positive : {place : ℕ} (k : ℕ) → place ≡ 2 ^ k → 0 < place
 unit-positive k e = rw e (pow-pos k)
 
--- the reach from the last site
-pub reach-from : (p : Items) {site : ℕ} → valid p ≡ true → (p .count ≡ 0 → ⊥) → site ≡ at (p .sites) (p .count - 1) → (site + 1 ≡ reach p) × (site < 31)
-reach-from p {site} v some e = let last : reach p ≡ suc (at (p .sites) (p .count - 1)) = reach-last p (omega arith) in (omega arith, omega (arith, reach-most p v))
+-- the number after the site of the last place is the reach
+pub reach-from : (p : Items) {next : ℕ} → (p .count ≡ 0 → ⊥) → next ≡ at (p .sites) (p .count - 1) + 1 → next ≡ reach p
+reach-from p {next} some e = let last : reach p ≡ suc (at (p .sites) (p .count - 1)) = reach-last p (omega arith) in omega arith
 
 -- ---- totals that differ at some places only
 

@@ -1,17 +1,18 @@
 // The row of a product's matrix: one entry is not zero.
 ghost use mathlib.Core.Path.{_≡_};
 ghost use mathlib.Core.Bool.{true};
-ghost use Prim.Native.Nat.{ℕ, _^_, _<_, _≤_};
+ghost use Prim.Native.Nat.{ℕ, _+_, _^_, _<_, _≤_};
 ghost use Rattle.refusal.specs.Refusals.{gives};
 ghost use Rattle.letters.specs.Matrices.{lettersOf};
 ghost use Rattle.letters.specs.Single.{cell};
 ghost use Rattle.letters.specs.Rows.{columnOf, rowPower};
 ghost use Rattle.products.specs.Record.{valid, letterAt, reach};
 ghost use Rattle.products.specs.Answers.{saidRow, rowAnswer};
+use crate::items::CAPACITY;
 use crate::items::Items;
 use crate::items::ItemsRow;
+use crate::items::Site;
 use crate::items::is_valid;
-use crate::items::wide;
 use letters::Kind;
 use refusal::Refusal;
 
@@ -43,16 +44,25 @@ fn place_of(k: u32) -> u64
     1u64 << k
 }
 
-// One more than the highest occupied site.
-fn reach_of(p: Items) -> usize
-    requires { ⌜ valid p ≡ true ⌝ }
+// The number after a site.
+fn after(site: Site) -> usize
+    ensures { λ r. ⌜ r ≡ site + 1 ⌝ }
+{
+    (site as usize) + 1
+}
+
+// One more than the highest occupied site. A count past the arrays reads as site 0, as `reach` has it.
+pub fn reach_of(p: Items) -> usize
     ensures { λ r. ⌜ r ≡ reach p ⌝ }
 {
     let count = p.count;
     if count == 0 {
         return 0;
     }
-    wide(p.sites[count - 1]) + 1
+    if CAPACITY < count {
+        return 1;
+    }
+    after(p.sites[count - 1])
 }
 
 // The entry of a row that is not zero: a free site leaves the row's bit as it is.

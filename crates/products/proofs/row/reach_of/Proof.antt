@@ -1,9 +1,8 @@
--- `row::reach_of`: the last site is the highest.
+-- `row::reach_of`: the last site is the highest; a count past the array reads as site 0.
 -- Assumes nothing.
 use mathlib.Core.Path.{sym}
-use native.Mathlib.Omega.{arith}
 use borrow.Author.Needs.{needs}
-use Rattle.products.proofs.RecordLaws.{valid-shape, reach-none}
+use Rattle.products.proofs.RecordLaws.{reach-none, reach-past}
 use Rattle.products.proofs.RowLaws.{reach-from}
 use Rattle.products.proofs.row.reach_of.Statement.{statement}
 use Rattle.products.proofs.row.reach_of.Tie as tie
@@ -11,21 +10,22 @@ use Rattle.products.proofs.row.reach_of.Tie as tie
 returns : tie.Need-returns
 returns c = sym (reach-none _ (c .if1 .taken))
 
-sub-wide : tie.Need-sub-wide
-sub-wide c = search needs
-
-element-copy-out-wide : tie.Need-element-copy-out-wide
-element-copy-out-wide c = omega (arith, valid-shape _ (c .before .pre) .count-most)
-
-wide-requires : tie.Need-wide-requires
-wide-requires c κs = search needs
-
-add-result : tie.Need-add-result
-add-result c = omega (arith, reach-from _ (c .before .before .before .pre) (c .before .before .if1 .left) (c .wide .ensures) .1)
-
 returns-2 : tie.Need-returns-2
-returns-2 c = reach-from _ (c .before .before .before .pre) (c .before .before .if1 .left) (c .wide .ensures) .0
+returns-2 c = sym (reach-past _ (search needs) (c .if2 .taken))
+
+sub-after : tie.Need-sub-after
+sub-after c = search needs
+
+element-copy-out-after : tie.Need-element-copy-out-after
+element-copy-out-after c = search needs
+
+after-requires : tie.Need-after-requires
+after-requires c κs = search needs
+
+returns-3 : tie.Need-returns-3
+returns-3 c = reach-from _ (c .before .before .before .if1 .left) (c .after .ensures)
 
 pub reach-of-spec : {M : Type 1} → statement M
 reach-of-spec =
-    tie.close (tie.spec returns sub-wide element-copy-out-wide wide-requires add-result returns-2)
+    tie.close
+    (tie.spec returns returns-2 sub-after element-copy-out-after after-requires returns-3)

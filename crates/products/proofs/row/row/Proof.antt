@@ -26,7 +26,7 @@ returns-3 : tie.Need-returns-3
 returns-3 c = row-range _ _ _ _ (sym (c .before .before .before .before .is-valid .ensures) ∙ not-false _ (c .before .before .before .if1 .left)) (c .before .before .if2 .left) (c .before .place-of .ensures) (c .if3 .taken)
 
 reach-of-requires : tie.Need-reach-of-requires
-reach-of-requires c κs = sym (c .before .before .before .before .is-valid .ensures) ∙ not-false _ (c .before .before .before .if1 .left)
+reach-of-requires c κs = search needs
 
 sub-t13 : tie.Need-sub-t13
 sub-t13 c = search needs
