@@ -1,0 +1,13 @@
+pub mod PlacingLaws
+pub mod SparseLaws
+pub mod SuperoperatorTheorems
+pub mod EntryLaws
+pub mod SortLaws
+pub mod RunLaws
+pub mod PartLaws
+pub mod SummedLaws
+pub mod ArrayLaws
+pub mod DeliveryLaws
+pub mod OpenLaws
+pub mod RowCases
+pub mod CallLaws

@@ -1,0 +1,119 @@
+-- An open system's row: the commutator row and the noise row stand one after the other in three arrays, are merged by column and added up.
+-- Assumes nothing.
+use Prim.Native.Nat.{ℕ, zero, suc, _+_, _≤_, _<_}
+use native.Mathlib.Nat.{add-zero}
+use native.Mathlib.Numerals.{add-one}
+use native.Mathlib.Omega.{arith}
+use mathlib.Core.Path.{_≡_, refl, sym, ap, ap₂, _∙_}
+use mathlib.Core.Bool.{Bool, true, false, cond}
+use mathlib.Core.List.{List, [], _∷_, _++_, map, append-assoc, append-nil}
+use lib.ListN.{length, getD, set, take, drop}
+use lib.Seq.{slice, take-take, take-at, drop-at}
+use lib.Ieee.{Float, nan}
+use Rattle.complex.specs.Complex.{sumOf, isZero}
+use Rattle.complex.specs.declared.Complex.{Complex}
+use Rattle.rows.specs.Placing.{rowOf, nonzero}
+use Rattle.rows.specs.Sorting.{merged, summed, upTo}
+use Rattle.rows.specs.Buffers.{Long, valueAt, entryAt, entries, kept, floatRow, openRow}
+use Rattle.rows.proofs.SortLaws.{map-merged}
+use Rattle.rows.proofs.SummedLaws.{columnOf, Climbing, climbing-lower, climbing-row, placed-row}
+use Rattle.rows.proofs.ArrayLaws.{entries-none, entries-stored, entries-map, length-entries, long-stored}
+
+-- ---- the loop that appends
+
+pub record Appending (cs : List ℕ) (xs ys : List Float) (q : ℕ) (ds : List ℕ) (us vs : List Float) (p : ℕ) (ds′ : List ℕ) (us′ vs′ : List Float) (i : ℕ) : Type 0 where
+  pub within : i ≤ q
+  pub shape : entries ds′ us′ vs′ (p + i) ≡ entries ds us vs p ++ entries cs xs ys i
+  pub long : Long ds′ us′ vs′
+
+pub appending-none : (cs : List ℕ) (xs ys : List Float) (q : ℕ) (ds : List ℕ) (us vs : List Float) (p : ℕ) → Long ds us vs → Appending cs xs ys q ds us vs p ds us vs 0
+appending-none cs xs ys q ds us vs p l =
+    record { within = omega arith; shape = rw (add-zero p, entries-none cs xs ys) (sym (append-nil (entries ds us vs p))); long = l }
+
+entries-more : (cs : List ℕ) (xs ys : List Float) (i : ℕ) → entries cs xs ys (i + 1) ≡ entries cs xs ys i ++ entryAt cs xs ys i ∷ []
+unfolding entries
+entries-more cs xs ys i = rw (add-one i)
+
+pub appending-more : {cs : List ℕ} {xs ys : List Float} {q : ℕ} {ds : List ℕ} {us vs : List Float} {p : ℕ} {ds′ : List ℕ} {us′ vs′ : List Float} {i : ℕ}
+    → Appending cs xs ys q ds us vs p ds′ us′ vs′ i → i < q → p + q ≤ 320
+    → Appending cs xs ys q ds us vs p (set ds′ (p + i) (getD cs i 0)) (set us′ (p + i) (getD xs i nan)) (set vs′ (p + i) (getD ys i nan)) (i + 1)
+appending-more {cs} {xs} {ys} {q} {ds} {us} {vs} {p} {ds′} {us′} {vs′} {i} a h k =
+    let e : p + (i + 1) ≡ p + i + 1 = omega arith in
+    record {
+      within = omega arith;
+      shape =
+          rw e
+          (entries-stored ds′ us′ vs′ (p + i) (getD cs i 0) (valueAt xs ys i) (a .long) (omega arith)
+          ∙ ap (λ (l : List (ℕ × Complex)). l ++ entryAt cs xs ys i ∷ []) (a .shape)
+          ∙ append-assoc (entries ds us vs p) (entries cs xs ys i) (entryAt cs xs ys i ∷ [])
+          ∙ ap (λ (l : List (ℕ × Complex)). entries ds us vs p ++ l) (sym (entries-more cs xs ys i)));
+      long = long-stored ds′ us′ vs′ (p + i) (getD cs i 0) (getD xs i nan) (getD ys i nan) (a .long);
+    }
+
+pub appending-done : {cs : List ℕ} {xs ys : List Float} {q : ℕ} {ds : List ℕ} {us vs : List Float} {p : ℕ} {ds′ : List ℕ} {us′ vs′ : List Float} {i : ℕ}
+    → Appending cs xs ys q ds us vs p ds′ us′ vs′ i → q ≤ i → entries ds′ us′ vs′ (p + q) ≡ entries ds us vs p ++ entries cs xs ys q
+appending-done {cs} {xs} {ys} {q} {ds} {us} {vs} {p} {ds′} {us′} {vs′} {i} a h =
+    let w = a .within in
+    let e : q ≡ i = omega arith in
+    rw e (a .shape)
+
+-- ---- parts go through a map
+
+module _ {A B : Type 0} (f : A → B) where
+  map-take : (n : ℕ) (l : List A) → map f (take n l) ≡ take n (map f l)
+  map-take zero l = refl
+  map-take (suc n) [] = refl
+  map-take (suc n) (x ∷ l) = ap (λ (t : List B). f x ∷ t) (map-take n l)
+
+  map-drop : (n : ℕ) (l : List A) → map f (drop n l) ≡ drop n (map f l)
+  map-drop zero l = refl
+  map-drop (suc n) [] = refl
+  map-drop (suc n) (x ∷ l) = map-drop n l
+
+-- ---- both rows are strictly ascending
+
+climbing-nonzero : (b : ℕ) (l : List (ℕ × Complex)) → Climbing b l → Climbing b (nonzero isZero l)
+unfolding nonzero
+climbing-nonzero b [] r = tt
+climbing-nonzero b (x ∷ l) r =
+    let later : Climbing (suc (x .0)) (nonzero isZero l) = climbing-nonzero (suc (x .0)) l (r .1) in
+    let first = r .0 in
+    go (isZero (x .1)) (climbing-lower b (suc (x .0)) (nonzero isZero l) (omega arith) later) (first, later)
+  where
+    go : (t : Bool) → Climbing b (nonzero isZero l) → Climbing b (x ∷ nonzero isZero l) → Climbing b (cond t (nonzero isZero l) (x ∷ nonzero isZero l))
+    go true p q = p
+    go false p q = q
+
+climbing-float : (zeros : Bool) (l : List (ℕ × Complex)) → Climbing 0 (floatRow zeros l)
+unfolding floatRow
+climbing-float true l = climbing-row sumOf l
+climbing-float false l = climbing-nonzero 0 (rowOf sumOf l) (climbing-row sumOf l)
+
+-- ---- the row
+
+-- the first places, merged by column
+pub places-merged : (key : ℕ → ℕ) (p q : ℕ) (a b : List ℕ) → take (p + q) a ≡ upTo (p + q) → slice 0 (p + q) b ≡ merged key (slice 0 p a) (slice p (p + q) a)
+    → take (p + q) b ≡ merged key (take p (upTo (p + q))) (drop p (upTo (p + q)))
+places-merged key p q a b counted together =
+    together ∙ ap₂ (merged key) (sym (take-take p (p + q) a (omega arith)) ∙ ap (take p) counted) (ap (drop p) counted)
+
+-- the places of both rows, merged by column, add up to the open system's row
+pub open-row : (cs : List ℕ) (xs ys : List Float) (p q : ℕ) (places : List ℕ) (commutator noise : List (ℕ × Complex))
+    → take (p + q) places ≡ merged (λ i. getD cs i 0) (take p (upTo (p + q))) (drop p (upTo (p + q)))
+    → (ds : List ℕ) (us vs : List Float) (es : List ℕ) (ws zs : List Float)
+    → entries ds us vs p ≡ floatRow false commutator → entries es ws zs q ≡ floatRow true noise
+    → entries cs xs ys (p + q) ≡ entries ds us vs p ++ entries es ws zs q
+    → kept true (summed sumOf (map (entryAt cs xs ys) (take (p + q) places))) ≡ openRow (floatRow false commutator) (floatRow true noise)
+unfolding openRow kept
+open-row cs xs ys p q places commutator noise together ds us vs es ws zs left right both =
+    let E = entryAt cs xs ys in
+    let all : map E (upTo (p + q)) ≡ floatRow false commutator ++ floatRow true noise = entries-map cs xs ys (p + q) ∙ both ∙ ap₂ (λ (l r : List (ℕ × Complex)). l ++ r) left right in
+    let long : length (floatRow false commutator) ≡ p = ap length (sym left) ∙ length-entries ds us vs p in
+    let first : map E (take p (upTo (p + q))) ≡ floatRow false commutator =
+    map-take E p (upTo (p + q)) ∙ ap (take p) all ∙ take-at (floatRow false commutator) (floatRow true noise) p long in
+    let second : map E (drop p (upTo (p + q))) ≡ floatRow true noise =
+    map-drop E p (upTo (p + q)) ∙ ap (drop p) all ∙ drop-at (floatRow false commutator) (floatRow true noise) p long in
+    ap (λ (l : List ℕ). summed sumOf (map E l)) together
+    ∙ ap (summed sumOf) (map-merged columnOf E (take p (upTo (p + q))) (drop p (upTo (p + q))))
+    ∙ ap₂ (λ (l r : List (ℕ × Complex)). summed sumOf (merged columnOf l r)) first second
+    ∙ sym (placed-row sumOf (floatRow false commutator) (floatRow true noise) (climbing-float false commutator) (climbing-float true noise))

@@ -1,0 +1,50 @@
+-- A row call: its refusals in the order 7, 9, 8, then the row; and what it answers and leaves in three lent buffers, refused or not.
+-- Document 01, `Rows` and `Numbers of the no`.
+use mathlib.Core.Path.{_≡_}
+use Prim.Native.Nat.{ℕ, _-_}
+use mathlib.Core.Bool.{Bool, cond}
+use mathlib.Core.List.{List, [], _∷_, map}
+use lib.Dec.{leb, ltb}
+use lib.ListN.{length}
+use lib.Ieee.{Float}
+use Rattle.refusal.specs.Refusals.{Said, gives, refuses}
+use Rattle.complex.specs.declared.Complex.{Complex}
+use Rattle.products.specs.Record.{reach}
+use Rattle.products.specs.Answers.{mostSpins}
+use Rattle.products.specs.declared.items.Items.{Items}
+use Rattle.rows.specs.Buffers.{roomFor, laid}
+
+-- the highest site of the first product that has a site at n or above, as a list of one
+unfoldable pub outside : ℕ → List Items → List ℕ
+outside n [] = []
+outside n (p ∷ ps) = let rest = outside n ps in cond (ltb n (reach p)) ((reach p - 1) ∷ []) rest
+
+-- 8: "a term has a site at n or above: first such term, its highest site"
+unfoldable pub unlessOutside : List ℕ → List (ℕ × Complex) → Said (List (ℕ × Complex))
+unlessOutside [] row = gives row
+unlessOutside (s ∷ ss) row = refuses 8 (s ∷ [])
+
+-- a row r of `rows` rows over n spins, of terms with the products ps
+unfoldable pub checkedRow : ℕ → ℕ → ℕ → List Items → List (ℕ × Complex) → Said (List (ℕ × Complex))
+checkedRow n rows r ps row =
+    cond (ltb mostSpins n) (refuses 7 [])
+    (cond (leb rows r) (refuses 9 [])
+    (unlessOutside (outside n ps) row))
+
+-- ---- what a call answers, and what a buffer holds after it
+
+unfoldable pub countOf : Said (List (ℕ × Complex)) → List ℕ → List Float → List Float → Said ℕ
+countOf (gives l) a b c = cond (roomFor (length l) a b c) (gives (length l)) (refuses 10 [])
+countOf (refuses k s) a b c = refuses k s
+
+-- f is the part of an entry that the buffer old takes
+unfoldable pub after : {X : Type 0} → (ℕ × Complex → X) → Said (List (ℕ × Complex)) → List ℕ → List Float → List Float → List X → List X
+after f (gives l) a b c old = laid (roomFor (length l) a b c) (map f l) old
+after f (refuses k s) a b c old = old
+
+-- x is the row to deliver, or the refusal; r what is said; a to a′, b to b′ and c to c′ the buffers
+pub record RowCall (x : Said (List (ℕ × Complex))) (r : Said ℕ) (a a′ : List ℕ) (b b′ c c′ : List Float) : Type 0 where
+  pub answer : r ≡ countOf x a b c
+  pub columns : a′ ≡ after (λ e. e .0) x a b c a
+  pub reals : b′ ≡ after (λ e. e .1 .re) x a b c b
+  pub imaginaries : c′ ≡ after (λ e. e .1 .im) x a b c c

@@ -1,0 +1,43 @@
+-- The columns and powers of i that products contribute to a row, found from their own rows: what `commutatorTerms` and `noiseTerms` scale.
+-- A row that a product does not have (number 0, 7, 8 or 9 of `rowAnswer`) counts as column 0 with power 0.
+use Prim.Native.Nat.{ℕ, _+_, _*_, _/_, _%_, _^_}
+use mathlib.Core.Bool.{cond}
+use mathlib.Core.List.{List, [], _∷_}
+use lib.Dec.{ltb}
+use Rattle.refusal.specs.Refusals.{Said, gives, refuses}
+use Rattle.letters.specs.Matrices.{Letters, pauli, decoherence}
+use Rattle.products.specs.Answers.{rowAnswer, mostSpins}
+use Rattle.products.specs.declared.items.Items.{Items}
+use Rattle.rows.specs.Contributions.{pairColumn}
+
+-- the column and the power of a row's answer
+abbrev pub found : Said (ℕ × ℕ) → ℕ × ℕ
+found (gives x) = x
+found (refuses k l) = (0, 0)
+
+unfoldable pub entryOf : Letters → Items → ℕ → ℕ → ℕ × ℕ
+entryOf M p n r = found (rowAnswer M p n r)
+
+-- the two entries of a Pauli product in a commutator's row r = (k, l)
+unfoldable pub commutatorEntries : Items → ℕ → ℕ → List (ℕ × ℕ)
+commutatorEntries p n r =
+    let k = r / 2 ^ n in
+    let l = r % 2 ^ n in
+    let left = entryOf pauli p n k in
+    let b = entryOf pauli p n l .0 in
+    cond (ltb mostSpins n) ((0, 0) ∷ (0, 0) ∷ [])
+    ((pairColumn n (left .0) l, (3 + left .1) % 4) ∷ (pairColumn n k b, (1 + entryOf pauli p n b .1) % 4) ∷ [])
+
+-- the three entries of a pair (L, R) of decoherence products in a noise row r = (k, l)
+unfoldable pub noiseEntries : Items → Items → ℕ → ℕ → List (ℕ × ℕ)
+noiseEntries p q n r =
+    let k = r / 2 ^ n in
+    let l = r % 2 ^ n in
+    let jumpL = entryOf decoherence p n k in
+    let jumpR = entryOf decoherence q n l in
+    let m = entryOf decoherence q n k .0 in
+    let m′ = entryOf decoherence p n l .0 in
+    cond (ltb mostSpins n) ((0, 0) ∷ (0, 0) ∷ (0, 0) ∷ [])
+    ((pairColumn n (jumpL .0) (jumpR .0), (jumpL .1 + jumpR .1) % 4)
+    ∷ (pairColumn n (entryOf decoherence p n m .0) l, (3 * entryOf decoherence q n m .1 + entryOf decoherence p n m .1) % 4)
+    ∷ (pairColumn n k (entryOf decoherence q n m′ .0), (3 * entryOf decoherence q n m′ .1 + entryOf decoherence p n m′ .1) % 4) ∷ [])
