@@ -1,11 +1,11 @@
--- The loops of the chains: the terms that were added after i turns, for a product, a row of it, a conjugate and a conversion; and the loop
+-- The loops of the chains: the terms that were added after i turns, for a product, a row of it, a conjugate, a conversion and the terms themselves; and the loop
 -- that scales a set in its places. A set has its count n and its places t.
 -- Assumes nothing.
 use Prim.Native.Nat.{ℕ, suc, _+_, _-_, _≤_, _<_}
 use native.Mathlib.Numerals.{add-one}
 use native.Mathlib.Omega.{arith}
 use mathlib.Core.Path.{_≡_, refl, sym, ap, _∙_}
-use mathlib.Core.List.{List, [], _∷_, _++_, map, append-nil, append-assoc}
+use mathlib.Core.List.{List, [], _∷_, _++_, map, map-id, append-nil, append-assoc}
 use lib.ListN.{length, take, drop, getD, set, replicate, length-map}
 use lib.Seq.{getD-take, length-take-le, take-all, drop-cons, set-at, drop-append-seam}
 use Rattle.refusal.specs.declared.Outcome.{Outcome}
@@ -26,7 +26,7 @@ use Rattle.operators.specs.Chained.{chained, after, Chain, productTerms,
 use Rattle.operators.specs.declared.term_set.Term.{Term}
 use Rattle.operators.specs.declared.term_set.TermSet.{TermSet}
 use Rattle.operators.specs.declared.term_set.TermSetAnswer.{TermSetAnswer}
-use Rattle.operators.proofs.SetLaws.{held-own, filled-by}
+use Rattle.operators.proofs.SetLaws.{held-own, filled-by, held-from}
 use Rattle.operators.proofs.ChainLaws.{chained-some}
 
 -- ---- any chain: `so l` are the terms that the terms l give
@@ -195,6 +195,25 @@ module _ (M : Letters) (r : List Term) where
       ∙ ap (λ (m : List Term). m ++ rowTerms M (getD l i d) r) (sym (products-rows (take i l)))
       ∙ ap (λ (y : Term). productTerms M (take i l) r ++ rowTerms M y r) (getD-take n t i d h))
       step
+
+-- the terms themselves
+abbrev pub unchanged : List Term → List Term
+unchanged l = l
+
+pub unchanged-more : {n : ℕ} {t : List Term} {first : TermSetAnswer} {i : ℕ} {out out′ : TermSetAnswer} → Gathered unchanged n t first i out → i < n → (d : Term)
+    → ((ts : List Term) → out ≡ after ts → out′ ≡ after (ts ++ getD t i d ∷ [])) → Gathered unchanged n t first (i + 1) out′
+unchanged-more {n} {t} {first} {i} g h d step = gathered-one {so = unchanged} (λ (x : Term). x) (λ l. sym (map-id l)) g h d (getD t i d) refl step
+
+-- ---- chains of sets that were filled: the terms that these were filled with are added
+
+pub unchanged-of : (c : TermSetAnswer) (s : TermSet) (l : List Term) → s ≡ filled l → c ≡ after (heldBy s) → c ≡ after l
+unchanged-of c s l e h = h ∙ ap after (held-from s l e)
+
+pub products-of : (M : Letters) (c : TermSetAnswer) (s t : TermSet) (l r : List Term) → s ≡ filled l → t ≡ filled r → c ≡ after (productTerms M (heldBy s) (heldBy t)) → c ≡ after (productTerms M l r)
+products-of M c s t l r e f h =
+    h
+    ∙ ap (λ (x : List Term). after (productTerms M x (heldBy t))) (held-from s l e)
+    ∙ ap (λ (x : List Term). after (productTerms M l x)) (held-from t r f)
 
 -- ---- scaling in place
 

@@ -3,3 +3,8 @@ pub mod ValidLaws
 pub mod ChainLaws
 pub mod GatherLaws
 pub mod OperatorTheorems
+pub mod RealSetLaws
+pub mod RealValidLaws
+pub mod CopyLaws
+pub mod ValidAnswers
+pub mod RealValidAnswers

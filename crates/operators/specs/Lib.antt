@@ -3,3 +3,5 @@ pub mod Answers
 pub mod Matrices
 pub mod Chained
 pub mod Kinds
+pub mod Reals
+pub mod RealAnswers

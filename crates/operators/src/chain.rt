@@ -69,7 +69,7 @@ fn all_in_range(s: TermSet) -> bool
 }
 
 // What a chain answers at its end, where `back` stands beside a refusal.
-fn finished(c: TermSetAnswer, back: TermSet) -> TermSetAnswer
+pub(crate) fn finished(c: TermSetAnswer, back: TermSet) -> TermSetAnswer
     requires { ⌜ Chain c ⌝ }
     ensures { λ r. ⌜ ((ts : List Term) → c ≡ after ts → told r ≡ collected back (addAll complexTerms ts [])) ⌝ }
 {
@@ -120,7 +120,7 @@ fn add_row(c: TermSetAnswer, kind: Kind, x: Term, t: TermSet) -> TermSetAnswer
 }
 
 // The products of all pairs of terms, added up.
-fn multiplied(kind: Kind, s: TermSet, t: TermSet) -> TermSetAnswer
+pub(crate) fn multiplied(kind: Kind, s: TermSet, t: TermSet) -> TermSetAnswer
     requires { ⌜ (s ≡ filled (heldBy s)) × (t ≡ filled (heldBy t)) ⌝ }
     ensures { λ r. ⌜ r ≡ after (productTerms (lettersOf kind) (heldBy s) (heldBy t)) ⌝ }
 {
@@ -279,4 +279,24 @@ pub fn scale(s: TermSet, value: Complex) -> TermSetAnswer
         outcome: Outcome::Done,
         set: out,
     }
+}
+
+// The terms of a set, added one after the other.
+pub(crate) fn added_again(s: TermSet) -> TermSetAnswer
+    requires { ⌜ s ≡ filled (heldBy s) ⌝ }
+    ensures { λ r. ⌜ r ≡ after (heldBy s) ⌝ }
+{
+    let n = s.count;
+    let mut out = TermSetAnswer {
+        outcome: Outcome::Done,
+        set: empty_set(),
+    };
+    let mut i = 0;
+    while i < n {
+        let x = s.terms[i];
+        let p = x.items;
+        out = step(out, p, x.coefficient);
+        i += 1;
+    }
+    out
 }

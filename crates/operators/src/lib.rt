@@ -1,5 +1,7 @@
 // Sets of terms: operators and Hamiltonians.
 pub mod chain;
 pub mod decoherence_operator;
+pub mod hamiltonian_product;
+pub mod pauli_hamiltonian;
 pub mod pauli_operator;
 pub mod term_set;

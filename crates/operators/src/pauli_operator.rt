@@ -5,7 +5,9 @@ ghost use mathlib.Core.List.{[]};
 ghost use Rattle.letters.specs.Matrices.{pauli};
 ghost use Rattle.operators.specs.Complexes.{filled};
 ghost use Rattle.operators.specs.Answers.{saidGet, getTerm, setTerm, addTerm, multiplySets, conjugateSet, scaleSet};
+ghost use Rattle.operators.specs.RealAnswers.{multiplyReals, intoOperator};
 ghost use Rattle.operators.specs.Kinds.{toldPauliSet, toldPauli};
+use crate::pauli_hamiltonian::PauliHamiltonian;
 use crate::term_set::GetAnswer;
 use crate::term_set::SetAnswer;
 use crate::term_set::TermSet;
@@ -111,6 +113,32 @@ impl PauliOperator {
     {
         let s = self.terms;
         let a = crate::chain::scale(s, value);
+        let outcome = a.outcome;
+        let set = a.set;
+        PauliOperatorAnswer {
+            outcome: outcome,
+            operator: PauliOperator { terms: set },
+        }
+    }
+
+    // A Hamiltonian as an operator.
+    pub fn from_hamiltonian(hamiltonian: PauliHamiltonian) -> PauliOperatorAnswer
+        ensures { λ r. ⌜ toldPauli r ≡ intoOperator hamiltonian ⌝ }
+    {
+        let a = crate::hamiltonian_product::convert(hamiltonian);
+        let outcome = a.outcome;
+        let set = a.set;
+        PauliOperatorAnswer {
+            outcome: outcome,
+            operator: PauliOperator { terms: set },
+        }
+    }
+
+    // The product of two Hamiltonians, which is an operator.
+    pub fn from_hamiltonians(left: PauliHamiltonian, right: PauliHamiltonian) -> PauliOperatorAnswer
+        ensures { λ r. ⌜ toldPauli r ≡ multiplyReals left right ⌝ }
+    {
+        let a = crate::hamiltonian_product::multiply(left, right);
         let outcome = a.outcome;
         let set = a.set;
         PauliOperatorAnswer {

@@ -1,0 +1,55 @@
+-- `hamiltonian_product::convert`: the terms of a valid Hamiltonian, as a chain answers them; the empty set stands beside a refusal.
+-- Assumes nothing.
+use mathlib.Core.Path.{sym, _∙_}
+use borrow.Author.Tests.{not-true, not-false}
+use borrow.Author.Needs.{needs}
+use Rattle.operators.specs.RealAnswers.{intoOperator}
+use Rattle.operators.proofs.SetLaws.{own-from}
+use Rattle.operators.proofs.RealValidLaws.{valid-own}
+use Rattle.operators.proofs.GatherLaws.{unchanged-of}
+use Rattle.operators.proofs.hamiltonian_product.convert.Statement.{statement}
+use Rattle.operators.proofs.hamiltonian_product.convert.Tie as tie
+
+is-valid-requires : tie.Need-is-valid-requires
+is-valid-requires c κs = search needs
+
+empty-set-requires : tie.Need-empty-set-requires
+empty-set-requires c κs = search needs
+
+returns : tie.Need-returns
+unfolding intoOperator
+returns c =
+    let bad = sym (c .before .before .is-valid .ensures) ∙ not-true _ (c .before .if1 .taken) in
+    rw (bad, c .empty-set .ensures)
+
+complex-terms-requires : tie.Need-complex-terms-requires
+complex-terms-requires c κs = valid-own _ (sym (c .before .is-valid .ensures) ∙ not-false _ (c .if1 .left))
+
+added-again-requires : tie.Need-added-again-requires
+added-again-requires c κs = own-from _ _ (c .complex-terms .ensures)
+
+empty-set-requires-2 : tie.Need-empty-set-requires-2
+empty-set-requires-2 c κs = search needs
+
+finished-requires : tie.Need-finished-requires
+finished-requires c κs = record { terms = _; is = c .before .added-again .ensures }
+
+returns-2 : tie.Need-returns-2
+unfolding intoOperator
+returns-2 c =
+    let made = c .before .before .before in
+    let good = sym (made .before .before .is-valid .ensures) ∙ not-false _ (made .before .if1 .left) in
+    rw (good, ← c .before .empty-set2 .ensures) (c .finished .ensures _ (unchanged-of _ _ _ (made .complex-terms .ensures) (c .before .before .added-again .ensures)))
+
+pub convert-spec : {M : Type 1} → statement M
+convert-spec =
+    tie.close
+    (tie.spec
+    is-valid-requires
+    empty-set-requires
+    returns
+    complex-terms-requires
+    added-again-requires
+    empty-set-requires-2
+    finished-requires
+    returns-2)

@@ -1,0 +1,25 @@
+-- The refusal of a record that is not valid; else the Hamiltonian itself.
+use borrow.Author.Needs.{needs}
+use borrow.Author.Tests.{not-true, not-false}
+use mathlib.Core.Path.{sym, _∙_}
+use Rattle.operators.specs.RealAnswers.{conjugateReal}
+use Rattle.operators.proofs.pauli_hamiltonian.PauliHamiltonian.hermitian_conjugate.Statement.{statement}
+use Rattle.operators.proofs.pauli_hamiltonian.PauliHamiltonian.hermitian_conjugate.Tie as tie
+
+is-valid-requires : tie.Need-is-valid-requires
+is-valid-requires c κs = search needs
+
+returns : tie.Need-returns
+unfolding conjugateReal
+returns c =
+    let bad = sym (c .before .is-valid .ensures) ∙ not-true _ (c .if1 .taken) in
+    rw bad
+
+returns-2 : tie.Need-returns-2
+unfolding conjugateReal
+returns-2 c =
+    let ok = sym (c .before .is-valid .ensures) ∙ not-false _ (c .if1 .left) in
+    rw ok
+
+pub hermitian-conjugate-spec : {M : Type 1} → statement M
+hermitian-conjugate-spec = tie.close (tie.spec is-valid-requires returns returns-2)

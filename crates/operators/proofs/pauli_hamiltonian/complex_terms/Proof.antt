@@ -1,0 +1,81 @@
+-- The loop's invariant: the first i places hold the terms with complex coefficients, and blanks stand past them (`Copied`).
+use borrow.Author.Needs.{needs}
+use native.Mathlib.Omega.{arith}
+use Prim.Native.Nat.{_-_}
+use mathlib.Core.List.{[]}
+use mathlib.Core.Path.{_≡_, ap, _∙_}
+use lib.ListN.{length, length-map}
+use Rattle.terms.proofs.SettingLaws.{Held}
+use Rattle.operators.specs.Complexes as complexes
+use Rattle.operators.specs.Reals.{blank, complexTerm}
+use Rattle.operators.specs.declared.term_set.TermSet.{TermSet}
+use Rattle.operators.proofs.CopyLaws.{Copied, copied-none, copied-more, copied-done, copied-count}
+use Rattle.operators.proofs.RealSetLaws.{held-own}
+use Rattle.operators.proofs.SetLaws.{filled-by, filled-terms}
+use Rattle.operators.proofs.pauli_hamiltonian.complex_terms.Statement.{statement}
+use Rattle.operators.proofs.pauli_hamiltonian.complex_terms.Tie as tie
+
+abbrev Inv-loop : tie.InvT-loop
+Inv-loop s n r₀ i₀ r i = Copied complexTerm complexes.blank n (s .terms) (r .terms) i
+
+abbrev μ-loop : tie.MeasureT-loop
+μ-loop s n r₀ i₀ r i = n - i
+
+-- the set has all its places, and holds its own terms
+whole : (c : tie.Start Inv-loop μ-loop) → length (c .args .t1 .terms) ≡ 64
+whole c = simp length-map at (c .good .0 .1 .1 .1 .0 .1 .0 .1)
+
+own : (c : tie.Start Inv-loop μ-loop) → Held blank (c .args .t1 .count) (c .args .t1 .terms)
+own c = held-own (c .args .t1) (whole c) (c .pre)
+
+empty-set-requires : tie.Need-empty-set-requires Inv-loop μ-loop
+empty-set-requires c κs = search needs
+
+loop-holds : tie.Need-loop-holds Inv-loop μ-loop
+loop-holds c =
+    let w = whole (c .before) in
+    let few = own (c .before) .few in
+    copied-none (omega arith) (omega arith) (ap (λ (o : TermSet). o .terms) (c .empty-set .ensures) ∙ filled-terms [])
+
+mul-t : tie.Need-mul-t Inv-loop μ-loop
+mul-t c = omega arith
+
+element-copy-out-t : tie.Need-element-copy-out-t Inv-loop μ-loop
+element-copy-out-t c = omega arith
+
+mul-t10 : tie.Need-mul-t10 Inv-loop μ-loop
+mul-t10 c = omega arith
+
+element-set-from-r : tie.Need-element-set-from-r Inv-loop μ-loop
+element-set-from-r c = omega arith
+
+add-i : tie.Need-add-i Inv-loop μ-loop
+add-i c = omega arith
+
+loop-less : tie.Need-loop-less Inv-loop μ-loop
+loop-less c = omega arith
+
+loop-again : tie.Need-loop-again Inv-loop μ-loop
+loop-again c = copied-more _ (c .before .before .before .loop .inv) (omega arith)
+
+returns : tie.Need-returns Inv-loop μ-loop
+returns c =
+    let l = c .before in
+    filled-by _ _ (copied-count (l .loop .inv)) (copied-done (l .loop .inv) (omega arith))
+
+pub complex-terms-spec : {M : Type 1} → statement M
+complex-terms-spec =
+    tie.close
+    (tie.spec
+    Inv-loop
+    μ-loop
+    empty-set-requires
+    loop-holds
+    mul-t
+    element-copy-out-t
+    mul-t10
+    element-set-from-r
+    add-i
+    loop-less
+    loop-again
+    returns)

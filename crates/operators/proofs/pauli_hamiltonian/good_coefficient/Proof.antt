@@ -1,0 +1,23 @@
+-- `pauli_hamiltonian::good_coefficient`: each return by the tests that led there.
+-- Assumes nothing.
+use mathlib.Core.Path.{sym, _∙_}
+use borrow.Author.Needs.{needs}
+use borrow.Author.Tests.{not-true, not-false}
+use Rattle.operators.proofs.pauli_hamiltonian.good_coefficient.Statement.{statement}
+use Rattle.operators.proofs.pauli_hamiltonian.good_coefficient.Tie as tie
+
+part-in-range-requires : tie.Need-part-in-range-requires
+part-in-range-requires c κs = search needs
+
+returns : tie.Need-returns
+returns c =
+    let far = sym (c .before .part-in-range .ensures) ∙ not-true _ (c .if1 .taken) in
+    rw far
+
+returns-2 : tie.Need-returns-2
+returns-2 c =
+    let near = sym (c .before .part-in-range .ensures) ∙ not-false _ (c .if1 .left) in
+    rw near
+
+pub good-coefficient-spec : {M : Type 1} → statement M
+good-coefficient-spec = tie.close (tie.spec part-in-range-requires returns returns-2)
