@@ -5,3 +5,4 @@ pub mod Totals
 pub mod PlaceLaws
 pub mod EachLaws
 pub mod WriteLaws
+pub mod RunLaws

@@ -3,3 +3,4 @@ pub mod Kind
 pub mod Setting
 pub mod Chains
 pub mod Gaussian
+pub mod Runs

@@ -1,0 +1,5 @@
+pub mod SetLaws
+pub mod ValidLaws
+pub mod ChainLaws
+pub mod FullLaws
+pub mod RemapLaws

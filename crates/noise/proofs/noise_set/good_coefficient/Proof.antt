@@ -1,0 +1,25 @@
+-- The range decides first, then whether it is zero.
+use mathlib.Core.Path.{sym, _∙_}
+use borrow.Author.Needs.{needs}
+use borrow.Author.Tests.{not-true, not-false}
+use Rattle.noise.proofs.noise_set.good_coefficient.Statement.{statement}
+use Rattle.noise.proofs.noise_set.good_coefficient.Tie as tie
+
+in-range-requires : tie.Need-in-range-requires
+in-range-requires c κs = search needs
+
+returns : tie.Need-returns
+returns c =
+    let out = sym (c .before .in-range .ensures) ∙ not-true _ (c .if1 .taken) in
+    rw out
+
+is-zero-requires : tie.Need-is-zero-requires
+is-zero-requires c κs = search needs
+
+returns-2 : tie.Need-returns-2
+returns-2 c =
+    let within = sym (c .before .before .in-range .ensures) ∙ not-false _ (c .before .if1 .left) in
+    rw (within, c .is-zero .ensures)
+
+pub good-coefficient-spec : {M : Type 1} → statement M
+good-coefficient-spec = tie.close (tie.spec in-range-requires returns is-zero-requires returns-2)

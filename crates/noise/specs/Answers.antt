@@ -1,0 +1,117 @@
+-- What the entries on noise sets answer, refusals first in their order: 0, 4, 5, 6; in a chain 5 for a number given, 6 at its step, and 5 for
+-- what is held at the end. Document 01: pauli_noise_operator.rs and `Numbers of the no`.
+use Prim.Native.Nat.{ℕ}
+use mathlib.Core.Bool.{Bool, false, not, _&&_, _||_, cond}
+use mathlib.Core.List.{List, [], _∷_, map}
+use mathlib.Core.Option.{Option, none, some}
+use lib.Dec.{eqb}
+use Rattle.refusal.specs.Refusals.{Said, gives, refuses, done, said}
+use Rattle.complex.specs.Complex.{inRange}
+use Rattle.complex.specs.declared.Complex.{Complex}
+use Rattle.products.specs.Record.{valid}
+use Rattle.products.specs.Answers.{remapAnswer}
+use Rattle.terms.specs.Keyed.{held, each}
+use Rattle.terms.specs.Setting.{keyed, coefficientAt, write, hasRoom, added, addAll}
+use Rattle.terms.specs.Chains.{pairTerms as fullTerms}
+use Rattle.operators.specs.Complexes.{complexTerms, complexProducts}
+use Rattle.operators.specs.Complexes as operators
+use Rattle.operators.specs.Answers.{saidSet}
+use Rattle.operators.specs.declared.term_set.TermSet.{TermSet}
+use Rattle.noise.specs.Pairs.{Key, pairTerms, isEmpty, heldBy, filled, validSet}
+use Rattle.noise.specs.declared.noise_set.NoiseTerm.{NoiseTerm}
+use Rattle.noise.specs.declared.noise_set.NoiseSet.{NoiseSet}
+use Rattle.noise.specs.declared.noise_set.NoiseSetAfterSet.{NoiseSetAfterSet}
+use Rattle.noise.specs.declared.noise_set.NoiseSetAnswer.{NoiseSetAnswer}
+
+-- both products of a key are valid
+abbrev pub validKey : Key → Bool
+validKey k = valid (k .0) && valid (k .1)
+
+-- 4: "empty side"
+abbrev pub emptySide : Key → Bool
+emptySide k = isEmpty (k .0) || isEmpty (k .1)
+
+-- ---- one term
+
+-- 4 stands before the answer also here: "given exactly if"; the Rust answers zero
+unfoldable pub getPair : NoiseSet → Key → Said Complex
+getPair s k =
+    cond (not (validSet s)) (refuses 0 [])
+    (cond (not (validKey k)) (refuses 0 [])
+    (cond (emptySide k) (refuses 4 [])
+    (gives (coefficientAt pairTerms k (heldBy s)))))
+
+-- the coefficient that was there before, as a list of one; none where the key was free
+unfoldable pub setPair : NoiseSet → Key → Complex → Said (List Complex) × NoiseSet
+setPair s k a =
+    cond (not (validSet s)) (refuses 0 [], s)
+    (cond (not (validKey k)) (refuses 0 [], s)
+    (cond (emptySide k) (refuses 4 [], s)
+    (cond (not (inRange a)) (refuses 5 [], s)
+    (cond (not (hasRoom pairTerms k a (heldBy s))) (refuses 6 [], s)
+    (gives (map (λ t. t .coefficient) (held (keyed pairTerms k) (heldBy s))), filled (write pairTerms k a (heldBy s)))))))
+
+-- the sum is judged as it will be held
+unfoldable pub addPair : NoiseSet → Key → Complex → Said Unit × NoiseSet
+addPair s k a =
+    let b = added pairTerms k a (heldBy s) in
+    cond (not (validSet s)) (refuses 0 [], s)
+    (cond (not (validKey k)) (refuses 0 [], s)
+    (cond (emptySide k) (refuses 4 [], s)
+    (cond (not (inRange a)) (refuses 5 [], s)
+    (cond (not (hasRoom pairTerms k b (heldBy s))) (refuses 6 [], s)
+    (cond (not (inRange b)) (refuses 5 [], s)
+    (done, filled (write pairTerms k b (heldBy s))))))))
+
+-- ---- chains
+
+-- every coefficient is in range
+unfoldable pub allInRange : List NoiseTerm → Bool
+allInRange l = each (λ t ts. inRange (t .coefficient)) l
+
+-- terms added one after the other; s stands beside a refusal
+unfoldable pub collected : NoiseSet → Option (List NoiseTerm) → Said Unit × NoiseSet
+collected s none = (refuses 6 [], s)
+collected s (some l) = cond (not (allInRange l)) (refuses 5 [], s) (done, filled l)
+
+-- 4: "operator without terms"; then 5 for the value, also where every product is empty
+unfoldable pub addFullOperators : NoiseSet → TermSet → TermSet → Complex → Said Unit × NoiseSet
+addFullOperators s l r a =
+    cond (not (validSet s)) (refuses 0 [], s)
+    (cond (not (operators.validSet false l)) (refuses 0 [], s)
+    (cond (not (operators.validSet false r)) (refuses 0 [], s)
+    (cond (eqb (l .count) 0 || eqb (r .count) 0) (refuses 4 [], s)
+    (cond (not (inRange a)) (refuses 5 [], s)
+    (collected s (addAll pairTerms (fullTerms complexTerms pairTerms complexProducts isEmpty a (operators.heldBy l) (operators.heldBy r)) (heldBy s)))))))
+
+-- a refusal ends a chain, an answer lets it go on
+abbrev pub andThen : {A B : Type 0} → Said A → Said B → Said B
+andThen (gives x) rest = rest
+andThen (refuses k l) rest = refuses k l
+
+-- what a chain with refusals of its own ends in, judged by 5
+abbrev pub ended : NoiseSet → Said (List NoiseTerm) → Said Unit × NoiseSet
+ended s (gives l) = cond (not (allInRange l)) (refuses 5 [], s) (done, filled l)
+ended s (refuses k l) = (refuses k l, s)
+
+-- both products moved, term after term, left before right, and added; the first product refused refuses the call
+unfoldable pub remapAll : (ℕ → ℕ) → List NoiseTerm → List NoiseTerm → Said (List NoiseTerm)
+remapAll t [] l = gives l
+remapAll t (x ∷ xs) l =
+    let left = remapAnswer t (x .left) in
+    let right = remapAnswer t (x .right) in
+    let k : Key = (left .1, right .1) in
+    let a = added pairTerms k (x .coefficient) l in
+    let rest = remapAll t xs (write pairTerms k a l) in
+    andThen (left .0) (andThen (right .0) (cond (hasRoom pairTerms k a l) rest (refuses 6 [])))
+
+unfoldable pub remapSet : (ℕ → ℕ) → NoiseSet → Said Unit × NoiseSet
+remapSet t s = cond (not (validSet s)) (refuses 0 [], s) (ended s (remapAll t (heldBy s) []))
+
+-- ---- what each case of an answer says
+
+abbrev pub toldSet : NoiseSetAfterSet → Said (List Complex) × NoiseSet
+toldSet r = (saidSet (r .answer), r .set)
+
+abbrev pub told : NoiseSetAnswer → Said Unit × NoiseSet
+told r = (said (r .outcome), r .set)

@@ -1,0 +1,75 @@
+-- Noise sets: the terms that a record holds, the record that holds given terms, and which records are valid.
+-- Document 01, pauli_noise_operator.rs: "A key is a pair (L, R) of decoherence products, neither empty", and number 0.
+use mathlib.Core.Bool.{Bool, not, _&&_}
+use mathlib.Core.List.{List}
+use lib.Dec.{leb, eqb}
+use lib.ListN.{length, take, drop}
+use Rattle.complex.specs.Complex.{sumOf, isZero, inRange, isPlusZero}
+use Rattle.complex.specs.declared.Complex.{Complex}
+use Rattle.products.specs.Record.{valid, sameItems}
+use Rattle.products.specs.Answers.{emptyProduct}
+use Rattle.products.specs.declared.items.Items.{Items}
+use Rattle.terms.specs.Keyed.{has, padded, each}
+use Rattle.terms.specs.Kind.{Terms}
+use Rattle.terms.specs.Setting.{mostTerms, keyed}
+use Rattle.operators.specs.Complexes.{zeroComplex}
+use Rattle.noise.specs.declared.noise_set.NoiseTerm.{NoiseTerm}
+use Rattle.noise.specs.declared.noise_set.NoiseSet.{NoiseSet}
+
+-- a pair of products
+abbrev pub Key : Type 0
+Key = Items × Items
+
+abbrev pub sameKey : Key → Key → Bool
+sameKey x y = sameItems (x .0) (y .0) && sameItems (x .1) (y .1)
+
+abbrev pub pairOf : Key → Complex → NoiseTerm
+pairOf k a = record { left = k .0; right = k .1; coefficient = a }
+
+-- terms of a pair of products and a complex coefficient
+abbrev pub pairTerms : Terms Key Complex
+pairTerms =
+    record {
+      Term = NoiseTerm;
+      term = pairOf;
+      key = λ t. (t .left, t .right);
+      coefficient = λ t. t .coefficient;
+      same = sameKey;
+      zero = zeroComplex;
+      sum = sumOf;
+      isZero = isZero;
+    }
+
+-- a product without sites
+abbrev pub isEmpty : Items → Bool
+isEmpty p = eqb (p .count) 0
+
+-- what stands past the count
+abbrev pub blank : NoiseTerm
+blank = pairOf (emptyProduct, emptyProduct) zeroComplex
+
+-- the terms that a set holds, and the set that holds given terms
+abbrev pub heldBy : NoiseSet → List NoiseTerm
+heldBy s = take (s .count) (s .terms)
+
+unfoldable pub filled : List NoiseTerm → NoiseSet
+filled l = record { count = length l; terms = padded mostTerms blank l }
+
+-- a held term: two valid products, neither empty, a coefficient in range that is not zero, and no later term with its key
+unfoldable pub goodTerm : NoiseTerm → List NoiseTerm → Bool
+goodTerm t ts =
+    (valid (t .left) && valid (t .right))
+    && ((not (isEmpty (t .left)) && not (isEmpty (t .right)))
+    && ((inRange (t .coefficient) && not (isZero (t .coefficient))) && not (has (keyed pairTerms (t .left, t .right)) ts)))
+
+-- a term of zeros, +0 in its floats
+unfoldable pub isBlank : NoiseTerm → Bool
+isBlank t =
+    (sameItems (t .left) emptyProduct && sameItems (t .right) emptyProduct)
+    && (isPlusZero (t .coefficient .re) && isPlusZero (t .coefficient .im))
+
+-- what number 0 lets pass
+unfoldable pub validSet : NoiseSet → Bool
+validSet s =
+    eqb (length (s .terms)) mostTerms && (leb (s .count) mostTerms
+    && (each goodTerm (heldBy s) && each (λ t ts. isBlank t) (drop (s .count) (s .terms))))

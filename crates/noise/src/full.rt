@@ -1,0 +1,113 @@
+// Noise of two full operators: every pair of a left term and a right one, added to a noise set.
+ghost use mathlib.Core.Path.{_≡_};
+ghost use Prim.Native.Nat.{_≤_};
+ghost use Rattle.refusal.specs.Refusals.{gives};
+ghost use Rattle.terms.specs.Runs.{addOn};
+ghost use Rattle.operators.specs.Complexes.{heldBy as termsOf};
+ghost use Rattle.noise.specs.Pairs.{pairTerms, heldBy, filled};
+ghost use Rattle.noise.specs.Answers.{told, addFullOperators};
+ghost use Rattle.noise.specs.Chained.{State, Stands, Chain, fullPair, fullRow, fullRows};
+use crate::chain::finished;
+use crate::chain::step;
+use crate::noise_set::NoiseSet;
+use crate::noise_set::NoiseSetAnswer;
+use crate::noise_set::empty_side;
+use crate::noise_set::is_valid;
+use complex::Complex;
+use operators::term_set::Term;
+use operators::term_set::TermSet;
+use refusal::Outcome;
+use refusal::Refusal;
+
+// A left term with a right one: (conjugate of right, times left), times value; a pair with an empty product is passed over.
+fn add_pair(c: NoiseSetAnswer, x: Term, y: Term, value: Complex) -> NoiseSetAnswer
+    requires { ⌜ Chain c ⌝ }
+    ensures { λ r. ⌜ ((o : State) → Stands c o → Stands r (addOn pairTerms (fullPair value x y) o)) ⌝ }
+{
+    let p = x.items;
+    let q = y.items;
+    let a = x.coefficient;
+    if empty_side(p, q) {
+        return c;
+    }
+    let v = y.coefficient.conjugate().product(a).product(value);
+    step(c, p, q, v)
+}
+
+// A left term with all right terms, in their order.
+fn add_row(c: NoiseSetAnswer, x: Term, t: TermSet, value: Complex) -> NoiseSetAnswer
+    requires { ⌜ Chain c × (t .count ≤ 64) ⌝ }
+    ensures { λ r. ⌜ ((o : State) → Stands c o → Stands r (fullRow value (termsOf t) x o)) ⌝ }
+{
+    let n = t.count;
+    let mut out = c;
+    let mut j = 0;
+    while j < n {
+        let y = t.terms[j];
+        out = add_pair(out, x, y, value);
+        j += 1;
+    }
+    out
+}
+
+// All left terms with all right terms, added to a set's own terms.
+fn add_rows(s: NoiseSet, l: TermSet, t: TermSet, value: Complex) -> NoiseSetAnswer
+    requires { ⌜ (s ≡ filled (heldBy s)) × ((l .count ≤ 64) × (t .count ≤ 64)) ⌝ }
+    ensures { λ r. ⌜ Stands r (fullRows value (termsOf l) (termsOf t) (gives (heldBy s))) ⌝ }
+{
+    let n = l.count;
+    let mut out = NoiseSetAnswer {
+        outcome: Outcome::Done,
+        set: s,
+    };
+    let mut i = 0;
+    while i < n {
+        let x = l.terms[i];
+        out = add_row(out, x, t, value);
+        i += 1;
+    }
+    out
+}
+
+// The pairs of two operators' terms, added to a noise set.
+pub fn add_full(s: NoiseSet, left: TermSet, right: TermSet, value: Complex) -> NoiseSetAnswer
+    ensures { λ r. ⌜ told r ≡ addFullOperators s left right value ⌝ }
+{
+    if !is_valid(s) {
+        return NoiseSetAnswer {
+            outcome: Outcome::Refused(Refusal::Malformed),
+            set: s,
+        };
+    }
+    if !operators::term_set::is_valid(false, left) {
+        return NoiseSetAnswer {
+            outcome: Outcome::Refused(Refusal::Malformed),
+            set: s,
+        };
+    }
+    if !operators::term_set::is_valid(false, right) {
+        return NoiseSetAnswer {
+            outcome: Outcome::Refused(Refusal::Malformed),
+            set: s,
+        };
+    }
+    if left.count == 0 {
+        return NoiseSetAnswer {
+            outcome: Outcome::Refused(Refusal::EmptySide),
+            set: s,
+        };
+    }
+    if right.count == 0 {
+        return NoiseSetAnswer {
+            outcome: Outcome::Refused(Refusal::EmptySide),
+            set: s,
+        };
+    }
+    if !value.in_range() {
+        return NoiseSetAnswer {
+            outcome: Outcome::Refused(Refusal::CoefficientOutOfRange),
+            set: s,
+        };
+    }
+    finished(add_rows(s, left, right, value), s)
+}

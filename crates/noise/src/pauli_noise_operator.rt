@@ -1,0 +1,127 @@
+// Noise operators: pairs of decoherence products with complex rates.
+ghost use mathlib.Core.Path.{_≡_};
+ghost use mathlib.Core.List.{[]};
+ghost use Rattle.products.specs.Lists.{at};
+ghost use Rattle.operators.specs.Answers.{saidGet};
+ghost use Rattle.noise.specs.Pairs.{filled};
+ghost use Rattle.noise.specs.Answers.{getPair, setPair, addPair, addFullOperators, remapSet};
+ghost use Rattle.noise.specs.Kinds.{toldNoiseSet, toldNoise};
+use crate::noise_set::NoiseSet;
+use complex::Complex;
+use operators::decoherence_operator::DecoherenceOperator;
+use operators::term_set::GetAnswer;
+use operators::term_set::SetAnswer;
+use products::decoherence_product::DecoherenceProduct;
+use products::items::Site;
+use refusal::Outcome;
+
+pub struct PauliLindbladNoiseOperator {
+    pub set: NoiseSet,
+}
+
+pub struct NoiseOperatorAfterSet {
+    pub answer: SetAnswer,
+    pub operator: PauliLindbladNoiseOperator,
+}
+
+pub struct NoiseOperatorAnswer {
+    pub outcome: Outcome,
+    pub operator: PauliLindbladNoiseOperator,
+}
+
+impl PauliLindbladNoiseOperator {
+    // The operator without terms.
+    pub fn new() -> PauliLindbladNoiseOperator
+        ensures { λ r. ⌜ r .set ≡ filled [] ⌝ }
+    {
+        let set = crate::noise_set::empty_set();
+        PauliLindbladNoiseOperator { set: set }
+    }
+
+    // The coefficient of a pair, zero where there is none.
+    pub fn get(self, left: DecoherenceProduct, right: DecoherenceProduct) -> GetAnswer
+        ensures { λ r. ⌜ saidGet r ≡ getPair (self .set) (left .items, right .items) ⌝ }
+    {
+        let s = self.set;
+        let p = left.items;
+        let q = right.items;
+        crate::noise_set::get(s, p, q)
+    }
+
+    // The coefficient of a pair set; what was there before is answered.
+    pub fn set(
+        self,
+        left: DecoherenceProduct,
+        right: DecoherenceProduct,
+        value: Complex,
+    ) -> NoiseOperatorAfterSet
+        ensures { λ r. ⌜ toldNoiseSet r ≡ setPair (self .set) (left .items, right .items) value ⌝ }
+    {
+        let s = self.set;
+        let p = left.items;
+        let q = right.items;
+        let a = crate::noise_set::set(s, p, q, value);
+        let answer = a.answer;
+        let set = a.set;
+        NoiseOperatorAfterSet {
+            answer: answer,
+            operator: PauliLindbladNoiseOperator { set: set },
+        }
+    }
+
+    // A coefficient added to that of a pair.
+    pub fn add_operator_product(
+        self,
+        left: DecoherenceProduct,
+        right: DecoherenceProduct,
+        value: Complex,
+    ) -> NoiseOperatorAnswer
+        ensures { λ r. ⌜ toldNoise r ≡ addPair (self .set) (left .items, right .items) value ⌝ }
+    {
+        let s = self.set;
+        let p = left.items;
+        let q = right.items;
+        let a = crate::noise_set::add(s, p, q, value);
+        let outcome = a.outcome;
+        let set = a.set;
+        NoiseOperatorAnswer {
+            outcome: outcome,
+            operator: PauliLindbladNoiseOperator { set: set },
+        }
+    }
+
+    // The noise of two full operators added.
+    pub fn add_noise_from_full_operators(
+        self,
+        left: DecoherenceOperator,
+        right: DecoherenceOperator,
+        value: Complex,
+    ) -> NoiseOperatorAnswer
+        ensures { λ r. ⌜ toldNoise r ≡ addFullOperators (self .set) (left .terms) (right .terms) value ⌝ }
+    {
+        let s = self.set;
+        let l = left.terms;
+        let t = right.terms;
+        let a = crate::full::add_full(s, l, t, value);
+        let outcome = a.outcome;
+        let set = a.set;
+        NoiseOperatorAnswer {
+            outcome: outcome,
+            operator: PauliLindbladNoiseOperator { set: set },
+        }
+    }
+
+    // Every product moved to the targets of its sites.
+    pub fn remap_qubits(self, targets: [Site; 31]) -> NoiseOperatorAnswer
+        ensures { λ r. ⌜ toldNoise r ≡ remapSet (at targets) (self .set) ⌝ }
+    {
+        let s = self.set;
+        let a = crate::remap::remap_qubits(s, targets);
+        let outcome = a.outcome;
+        let set = a.set;
+        NoiseOperatorAnswer {
+            outcome: outcome,
+            operator: PauliLindbladNoiseOperator { set: set },
+        }
+    }
+}
