@@ -3,3 +3,4 @@ pub mod ValidLaws
 pub mod ChainLaws
 pub mod FullLaws
 pub mod RemapLaws
+pub mod NoiseTheorems
