@@ -10,7 +10,9 @@ empty-side-requires : tie.Need-empty-side-requires
 empty-side-requires c κs = search needs
 
 returns : tie.Need-returns
-returns c o h = pair-passed _ _ _ (c .before .before .before .before .before .args .c) o h (sym (c .before .empty-side .ensures) ∙ c .if1 .taken)
+returns c o h =
+    let a = c .before .before .before .before .before .args in
+    pair-passed (a .value) (a .x) (a .y) (a .c) o h (sym (c .before .empty-side .ensures) ∙ c .if1 .taken)
 
 conjugate-requires : tie.Need-conjugate-requires
 conjugate-requires c κs = search needs
@@ -28,7 +30,8 @@ returns-2 : tie.Need-returns-2
 returns-2 c o h =
     let q = c .before .before in
     let p = q .before in
-    pair-added _ _ _ (c .step .result) o _ _ _ (sym (p .before .before .empty-side .ensures) ∙ p .before .if1 .left) (p .conjugate .ensures) (q .product .ensures) (c .before .product2 .ensures) (c .step .ensures o h)
+    let a = c .before .before .before .before .before .before .before .before .before .args in
+    pair-added (a .value) (a .x) (a .y) (c .step .result) o _ _ _ (sym (p .before .before .empty-side .ensures) ∙ p .before .if1 .left) (p .conjugate .ensures) (q .product .ensures) (c .before .product2 .ensures) (c .step .ensures o h)
 
 pub add-pair-spec : {M : Type 1} → statement M
 add-pair-spec =
