@@ -4,3 +4,5 @@ pub mod ChainLaws
 pub mod FullLaws
 pub mod RemapLaws
 pub mod NoiseTheorems
+pub mod NoiseRowLaws
+pub mod NoiseValidAnswers

@@ -1,0 +1,48 @@
+-- Number 0 for each part; the row of a valid system is that of `row_of`.
+use mathlib.Core.Path.{sym, _∙_}
+use borrow.Author.Tests.{not-true, not-false}
+use borrow.Author.Needs.{needs}
+use Rattle.open_system.proofs.SystemRowLaws.{system-malformed, noise-malformed, system-valid}
+use Rattle.open_system.proofs.row.Statement.{statement}
+use Rattle.open_system.proofs.row.Tie as tie
+
+is-valid-requires : tie.Need-is-valid-requires
+is-valid-requires c κs = tt
+
+returns : tie.Need-returns
+returns c = system-malformed (c .before .before .before .before .before .before .before .args .s) _ _ (sym (c .before .is-valid .ensures) ∙ not-true _ (c .if1 .taken))
+
+is-valid-requires-2 : tie.Need-is-valid-requires-2
+is-valid-requires-2 c κs = tt
+
+returns-2 : tie.Need-returns-2
+returns-2 c = noise-malformed (c .before .before .before .before .before .before .before .before .before .args .s) _ _ (sym (c .before .before .before .is-valid .ensures) ∙ not-false _ (c .before .before .if1 .left)) (sym (c .before .is-valid2 .ensures) ∙ not-true _ (c .if2 .taken))
+
+row-of-requires : tie.Need-row-of-requires
+row-of-requires c κs = (sym (c .before .before .before .before .before .before .is-valid .ensures) ∙ not-false _ (c .before .before .before .before .before .if1 .left), sym (c .before .before .before .before .is-valid2 .ensures) ∙ not-false _ (c .before .before .before .if2 .left))
+
+same-length : tie.Need-same-length
+same-length c = search needs
+
+same-length-2 : tie.Need-same-length-2
+same-length-2 c = search needs
+
+same-length-3 : tie.Need-same-length-3
+same-length-3 c = search needs
+
+returns-3 : tie.Need-returns-3
+returns-3 c = system-valid (c .before .before .before .before .before .before .before .before .before .before .before .before .before .before .before .before .before .before .before .args .s) _ _ (sym (c .before .before .before .before .before .before .before .before .before .before .before .before .before .is-valid .ensures) ∙ not-false _ (c .before .before .before .before .before .before .before .before .before .before .before .before .if1 .left)) (sym (c .before .before .before .before .before .before .before .before .before .before .before .is-valid2 .ensures) ∙ not-false _ (c .before .before .before .before .before .before .before .before .before .before .if2 .left)) (c .before .before .before .before .before .before .row-of .ensures)
+
+pub row-spec : {M : Type 1} → statement M
+row-spec =
+    tie.close
+    (tie.spec
+    is-valid-requires
+    returns
+    is-valid-requires-2
+    returns-2
+    row-of-requires
+    same-length
+    same-length-2
+    same-length-3
+    returns-3)
