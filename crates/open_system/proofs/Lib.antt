@@ -1,1 +1,2 @@
 pub mod SystemRowLaws
+pub mod SystemTheorems
