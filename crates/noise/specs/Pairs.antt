@@ -2,16 +2,17 @@
 -- Document 01, pauli_noise_operator.rs: "A key is a pair (L, R) of decoherence products, neither empty", and number 0.
 use mathlib.Core.Bool.{Bool, not, _&&_}
 use mathlib.Core.List.{List}
-use lib.Dec.{leb, eqb}
-use lib.ListN.{length, take, drop}
+use lib.Dec.{eqb}
+use lib.ListN.{length, take}
 use Rattle.complex.specs.Complex.{sumOf, isZero, inRange, isPlusZero}
 use Rattle.complex.specs.declared.Complex.{Complex}
 use Rattle.products.specs.Record.{valid, sameItems}
 use Rattle.products.specs.Answers.{emptyProduct}
 use Rattle.products.specs.declared.items.Items.{Items}
-use Rattle.terms.specs.Keyed.{has, padded, each}
+use Rattle.terms.specs.Keyed.{has, padded}
 use Rattle.terms.specs.Kind.{Terms}
 use Rattle.terms.specs.Setting.{mostTerms, keyed}
+use Rattle.terms.specs.Places.{validPlaces}
 use Rattle.operators.specs.Complexes.{zeroComplex}
 use Rattle.noise.specs.declared.noise_set.NoiseTerm.{NoiseTerm}
 use Rattle.noise.specs.declared.noise_set.NoiseSet.{NoiseSet}
@@ -70,6 +71,4 @@ isBlank t =
 
 -- what number 0 lets pass
 unfoldable pub validSet : NoiseSet → Bool
-validSet s =
-    eqb (length (s .terms)) mostTerms && (leb (s .count) mostTerms
-    && (each goodTerm (heldBy s) && each (λ t ts. isBlank t) (drop (s .count) (s .terms))))
+validSet s = validPlaces goodTerm isBlank (s .count) (s .terms)

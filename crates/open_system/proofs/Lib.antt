@@ -1,2 +1,3 @@
 pub mod SystemRowLaws
 pub mod SystemTheorems
+pub mod DeliveredColumns

@@ -1,54 +1,39 @@
 -- What `filled` and `heldBy` of Hamiltonians mean for the code: one that holds its own terms has blanks past its count.
+-- The laws of any kind of set, said of this one.
 -- Assumes nothing.
 use Prim.Native.Nat.{ℕ}
-use mathlib.Core.Path.{_≡_, refl, sym, ap, _∙_}
+use mathlib.Core.Path.{_≡_, refl}
 use mathlib.Core.List.{List}
 use lib.ListN.{length}
 use Rattle.terms.specs.Keyed.{padded}
 use Rattle.terms.specs.Setting.{mostTerms}
-use Rattle.terms.proofs.SettingLaws.{Held, held-by, terms-of}
-use Rattle.terms.proofs.WriteLaws.{Sets}
-use Rattle.operators.specs.Reals.{realTerms, blank, heldBy, filled}
+use Rattle.terms.proofs.SettingLaws.{Held}
+use Rattle.terms.proofs.FilledLaws.{Sets}
+use Rattle.terms.proofs.FilledLaws as laws
+use Rattle.operators.specs.Reals.{blank, heldBy, filled}
 use Rattle.operators.specs.declared.pauli_hamiltonian.RealTerm.{RealTerm}
 use Rattle.operators.specs.declared.pauli_hamiltonian.PauliHamiltonian.{PauliHamiltonian}
-
--- ---- a set that holds its own terms
-
--- a set by its count and its places
-pub filled-by : (s : PauliHamiltonian) (l : List RealTerm) → s .count ≡ length l → s .terms ≡ padded mostTerms blank l → s ≡ filled l
-unfolding filled
-filled-by s l n t = λ j. record { count = n j; terms = t j }
 
 -- the set of a count and places
 abbrev pub setOf : ℕ → List RealTerm → PauliHamiltonian
 setOf n t = record { count = n; terms = t }
 
+-- the set that holds given terms, by its count and its places
+pub filled-is : (l : List RealTerm) → filled l ≡ setOf (length l) (padded mostTerms blank l)
+unfolding filled
+filled-is l = refl
+
 -- this kind of set, for the laws over any kind
-abbrev pub termSets : Sets realTerms PauliHamiltonian
-termSets = record { blank = blank; make = setOf; filled = filled; fills = λ n t l e g. filled-by (setOf n t) l e g }
+abbrev pub termSets : Sets RealTerm PauliHamiltonian
+termSets = record { blank = blank; count = λ s. s .count; places = λ s. s .terms; make = setOf; filled = filled; made = λ s. refl; made-count = λ n t. refl; made-places = λ n t. refl; fills = filled-is }
 
-pub filled-count : (l : List RealTerm) → filled l .count ≡ length l
-unfolding filled
-filled-count l = refl
-
-pub filled-terms : (l : List RealTerm) → filled l .terms ≡ padded mostTerms blank l
-unfolding filled
-filled-terms l = refl
+-- a set by its count and its places
+pub filled-by : (s : PauliHamiltonian) (l : List RealTerm) → s .count ≡ length l → s .terms ≡ padded mostTerms blank l → s ≡ filled l
+filled-by = laws.filled-by termSets
 
 -- to hold one's own terms is to have blanks past the count
 pub held-own : (s : PauliHamiltonian) → length (s .terms) ≡ mostTerms → s ≡ filled (heldBy s) → Held blank (s .count) (s .terms)
-held-own s whole e =
-    held-by blank (s .count) (s .terms) whole (ap (λ (o : PauliHamiltonian). o .count) e ∙ filled-count (heldBy s)) (ap (λ (o : PauliHamiltonian). o .terms) e ∙ filled-terms (heldBy s))
+held-own = laws.held-own termSets
 
 pub own-held : (s : PauliHamiltonian) → Held blank (s .count) (s .terms) → s ≡ filled (heldBy s)
-own-held s h = filled-by s (heldBy s) (sym (h .long)) (h .pads)
-
--- the terms of a filled set, and that it holds its own
-pub held-filled : (l : List RealTerm) → heldBy (filled l) ≡ l
-held-filled l = terms-of blank (filled l .count) (filled l .terms) l (filled-count l) (filled-terms l)
-
-pub held-from : (s : PauliHamiltonian) (l : List RealTerm) → s ≡ filled l → heldBy s ≡ l
-held-from s l e = ap (λ (o : PauliHamiltonian). heldBy o) e ∙ held-filled l
-
-pub own-from : (s : PauliHamiltonian) (l : List RealTerm) → s ≡ filled l → s ≡ filled (heldBy s)
-own-from s l e = e ∙ ap filled (sym (held-from s l e))
+own-held = laws.own-held termSets

@@ -1,16 +1,15 @@
 -- Valid Hamiltonians: what the tests of one term and of the places past the count say, what a valid one
 -- holds, and that good terms make a valid one.
 -- Assumes nothing.
-use Prim.Native.Nat.{ℕ, _+_, _-_, _≤_, _<_}
+use Prim.Native.Nat.{ℕ, _+_, _≤_, _<_}
 use native.Mathlib.Omega.{arith}
 use mathlib.Core.Path.{_≡_, refl, sym, ap, _∙_}
 use mathlib.Core.Bool.{Bool, true, false, not, _&&_}
 use mathlib.Core.List.{List, []}
 use lib.Dec.{leb, eqb}
 use lib.Ieee.{Float, eq}
-use lib.ListN.{length, drop, getD, replicate, length-append, length-replicate}
-use lib.Seq.{drop-at, getD-take, length-take-le}
-use borrow.Author.Tests.{eq-eqb, eqb-true, le-leb, leb-true}
+use lib.ListN.{length, drop, getD}
+use lib.Seq.{getD-take, length-take-le}
 use Rattle.letters.proofs.TestLaws.{and-true, and-left, and-right, and-false}
 use Rattle.complex.specs.Complex.{plusZero, partInRange, isPlusZero}
 use Rattle.complex.proofs.ZeroLaws.{plus-zero-only, plus-zero-passes}
@@ -23,9 +22,9 @@ use Rattle.terms.proofs.SettingLaws.{Held, different}
 use Rattle.operators.specs.Reals.{realTerms, blank, heldBy, filled, goodTerm, isBlank, validSet}
 use Rattle.operators.specs.declared.pauli_hamiltonian.RealTerm.{RealTerm}
 use Rattle.operators.specs.declared.pauli_hamiltonian.PauliHamiltonian.{PauliHamiltonian}
-use Rattle.operators.proofs.RealSetLaws.{held-filled}
-use Rattle.terms.proofs.EachLaws.{getD-any, each-follows, each-both, each-run, not-again}
-use Rattle.terms.proofs.PlaceLaws.{held-blanks}
+use Rattle.operators.proofs.RealSetLaws.{own-held}
+use Rattle.terms.proofs.EachLaws.{getD-any, each-follows, each-both, not-again}
+use Rattle.terms.proofs.PlacesLaws as places
 
 -- ---- blanks
 
@@ -130,52 +129,34 @@ good-nonzero l e = each-follows goodTerm (λ t ts. not (eq (t .coefficient) plus
 -- ---- valid sets
 
 -- what a valid set has
-pub record Valid (s : PauliHamiltonian) : Type 0 where
-  pub whole : length (s .terms) ≡ mostTerms
-  pub few : s .count ≤ mostTerms
-  pub good : each goodTerm (heldBy s) ≡ true
-  pub past : each (λ t ts. isBlank t) (drop (s .count) (s .terms)) ≡ true
+abbrev pub Valid : PauliHamiltonian → Type 0
+Valid s = places.Valid goodTerm isBlank (s .count) (s .terms)
 
 pub valid-parts : (s : PauliHamiltonian) → validSet s ≡ true → Valid s
 unfolding validSet
-valid-parts s e =
-    let whole = eqb (length (s .terms)) mostTerms in
-    let few = leb (s .count) mostTerms in
-    let good = each goodTerm (heldBy s) in
-    let past = each (λ t ts. isBlank t) (drop (s .count) (s .terms)) in
-    let e1 : (few && (good && past)) ≡ true = and-right whole (few && (good && past)) e in
-    let e2 : (good && past) ≡ true = and-right few (good && past) e1 in
-    record {
-      whole = eqb-true (length (s .terms)) mostTerms (and-left whole (few && (good && past)) e);
-      few = leb-true (s .count) mostTerms (and-left few (good && past) e1);
-      good = and-left good past e2;
-      past = and-right good past e2;
-    }
+valid-parts s = places.valid-parts goodTerm isBlank (s .count) (s .terms)
 
 pub valid-by : (s : PauliHamiltonian) → Valid s → validSet s ≡ true
 unfolding validSet
-valid-by s v =
-    and-true (eq-eqb (length (s .terms)) mostTerms (v .whole)) (and-true (le-leb (s .count) mostTerms (v .few)) (and-true (v .good) (v .past)))
+valid-by s = places.valid-by goodTerm isBlank (s .count) (s .terms)
 
 -- every value of the struct passes the first test: the others decide
 pub valid-is : (s : PauliHamiltonian) → length (s .terms) ≡ mostTerms → validSet s ≡ (leb (s .count) mostTerms && (each goodTerm (heldBy s) && each (λ t ts. isBlank t) (drop (s .count) (s .terms))))
 unfolding validSet
-valid-is s whole = rw (eq-eqb (length (s .terms)) mostTerms whole)
+valid-is s = places.valid-is goodTerm isBlank (s .count) (s .terms)
 
 module _ (s : PauliHamiltonian) (e : validSet s ≡ true) where
   -- its places are its terms, and blanks past them
   pub valid-held : Held blank (s .count) (s .terms)
-  valid-held =
-      let v = valid-parts s e in
-      held-blanks isBlank blank blank-only (s .count) (s .terms) (v .whole) (v .few) (v .past)
+  unfolding validSet
+  valid-held = places.valid-held goodTerm isBlank (s .count) (s .terms) blank blank-only e
 
   pub valid-count : s .count ≤ mostTerms
   valid-count = valid-parts s e .few
 
   -- it is the set that holds its terms
   pub valid-own : s ≡ filled (heldBy s)
-  unfolding filled
-  valid-own = λ j. record { count = sym (valid-held .long) j; terms = valid-held .pads j }
+  valid-own = own-held s valid-held
 
   -- its terms are good, and so are their products, coefficients and keys
   pub valid-good : each goodTerm (heldBy s) ≡ true
@@ -213,18 +194,8 @@ coefficients-good l e g =
 
 -- the set that holds at most the most terms, each of them good
 pub filled-valid : (l : List RealTerm) → length l ≤ mostTerms → each goodTerm l ≡ true → validSet (filled l) ≡ true
-unfolding filled
-filled-valid l few good =
-    let n = length-append l (replicate (mostTerms - length l) blank) in
-    let m = length-replicate (mostTerms - length l) blank in
-    valid-by (filled l) (record {
-      whole = n ∙ omega arith;
-      few = few;
-      good = ap (each goodTerm) (held-filled l) ∙ good;
-      past =
-          ap (each (λ t ts. isBlank t)) (drop-at l (replicate (mostTerms - length l) blank) (length l) refl)
-          ∙ each-run isBlank blank blank-passes (mostTerms - length l);
-    })
+unfolding filled validSet
+filled-valid l = places.padded-valid goodTerm isBlank blank blank-passes l
 
 -- the empty set
 pub empty-valid : validSet (filled []) ≡ true

@@ -1,54 +1,52 @@
 -- What `filled` and `heldBy` mean for the code: a set that holds its own terms has blanks past its count.
+-- The laws of any kind of set, said of this one.
 -- Assumes nothing.
 use Prim.Native.Nat.{ℕ}
-use mathlib.Core.Path.{_≡_, refl, sym, ap, _∙_}
+use mathlib.Core.Path.{_≡_, refl}
 use mathlib.Core.List.{List}
 use lib.ListN.{length}
 use Rattle.terms.specs.Keyed.{padded}
 use Rattle.terms.specs.Setting.{mostTerms}
-use Rattle.terms.proofs.SettingLaws.{Held, held-by, terms-of}
-use Rattle.terms.proofs.WriteLaws.{Sets}
-use Rattle.operators.specs.Complexes.{complexTerms, blank, heldBy, filled}
+use Rattle.terms.proofs.SettingLaws.{Held}
+use Rattle.terms.proofs.FilledLaws.{Sets}
+use Rattle.terms.proofs.FilledLaws as laws
+use Rattle.operators.specs.Complexes.{blank, heldBy, filled}
 use Rattle.operators.specs.declared.term_set.Term.{Term}
 use Rattle.operators.specs.declared.term_set.TermSet.{TermSet}
-
--- ---- a set that holds its own terms
-
--- a set by its count and its places
-pub filled-by : (s : TermSet) (l : List Term) → s .count ≡ length l → s .terms ≡ padded mostTerms blank l → s ≡ filled l
-unfolding filled
-filled-by s l n t = λ j. record { count = n j; terms = t j }
 
 -- the set of a count and places
 abbrev pub setOf : ℕ → List Term → TermSet
 setOf n t = record { count = n; terms = t }
 
+-- the set that holds given terms, by its count and its places
+pub filled-is : (l : List Term) → filled l ≡ setOf (length l) (padded mostTerms blank l)
+unfolding filled
+filled-is l = refl
+
 -- this kind of set, for the laws over any kind
-abbrev pub termSets : Sets complexTerms TermSet
-termSets = record { blank = blank; make = setOf; filled = filled; fills = λ n t l e g. filled-by (setOf n t) l e g }
+abbrev pub termSets : Sets Term TermSet
+termSets = record { blank = blank; count = λ s. s .count; places = λ s. s .terms; make = setOf; filled = filled; made = λ s. refl; made-count = λ n t. refl; made-places = λ n t. refl; fills = filled-is }
+
+-- a set by its count and its places
+pub filled-by : (s : TermSet) (l : List Term) → s .count ≡ length l → s .terms ≡ padded mostTerms blank l → s ≡ filled l
+filled-by = laws.filled-by termSets
 
 pub filled-count : (l : List Term) → filled l .count ≡ length l
-unfolding filled
-filled-count l = refl
+filled-count = laws.filled-count termSets
 
 pub filled-terms : (l : List Term) → filled l .terms ≡ padded mostTerms blank l
-unfolding filled
-filled-terms l = refl
+filled-terms = laws.filled-places termSets
 
 -- to hold one's own terms is to have blanks past the count
 pub held-own : (s : TermSet) → length (s .terms) ≡ mostTerms → s ≡ filled (heldBy s) → Held blank (s .count) (s .terms)
-held-own s whole e =
-    held-by blank (s .count) (s .terms) whole (ap (λ (o : TermSet). o .count) e ∙ filled-count (heldBy s)) (ap (λ (o : TermSet). o .terms) e ∙ filled-terms (heldBy s))
+held-own = laws.held-own termSets
 
 pub own-held : (s : TermSet) → Held blank (s .count) (s .terms) → s ≡ filled (heldBy s)
-own-held s h = filled-by s (heldBy s) (sym (h .long)) (h .pads)
+own-held = laws.own-held termSets
 
 -- the terms of a filled set, and that it holds its own
-pub held-filled : (l : List Term) → heldBy (filled l) ≡ l
-held-filled l = terms-of blank (filled l .count) (filled l .terms) l (filled-count l) (filled-terms l)
-
 pub held-from : (s : TermSet) (l : List Term) → s ≡ filled l → heldBy s ≡ l
-held-from s l e = ap (λ (o : TermSet). heldBy o) e ∙ held-filled l
+held-from = laws.held-from termSets
 
 pub own-from : (s : TermSet) (l : List Term) → s ≡ filled l → s ≡ filled (heldBy s)
-own-from s l e = e ∙ ap filled (sym (held-from s l e))
+own-from = laws.own-from termSets

@@ -1,15 +1,14 @@
 -- Valid sets of terms with complex coefficients: what the tests of one term and of the places past the count say, what a valid set
 -- holds, and that good terms make a valid set.
 -- Assumes nothing.
-use Prim.Native.Nat.{ℕ, _+_, _-_, _≤_, _<_}
+use Prim.Native.Nat.{ℕ, _+_, _≤_, _<_}
 use native.Mathlib.Omega.{arith}
 use mathlib.Core.Path.{_≡_, refl, sym, ap, _∙_}
 use mathlib.Core.Bool.{Bool, true, false, not, _&&_, _||_}
 use mathlib.Core.List.{List, []}
 use lib.Dec.{leb, eqb}
-use lib.ListN.{length, drop, getD, replicate, length-append, length-replicate, length-drop}
-use lib.Seq.{drop-at, getD-take, length-take-le}
-use borrow.Author.Tests.{eq-eqb, eqb-true, le-leb, leb-true}
+use lib.ListN.{length, drop, getD}
+use lib.Seq.{getD-take, length-take-le}
 use Rattle.letters.proofs.TestLaws.{and-true, and-left, and-right, and-false}
 use Rattle.complex.specs.Complex.{isZero, inRange, isPlusZero}
 use Rattle.complex.specs.declared.Complex.{Complex}
@@ -19,14 +18,13 @@ use Rattle.products.specs.Answers.{emptyProduct}
 use Rattle.products.proofs.SameLaws.{same-self, same-equal}
 use Rattle.terms.specs.Keyed.{firstAt, each}
 use Rattle.terms.specs.Setting.{mostTerms, keyed}
-use Rattle.terms.proofs.KeyedLaws.{padded-take}
-use Rattle.terms.proofs.SettingLaws.{Held, held-past, different}
+use Rattle.terms.proofs.SettingLaws.{Held, different}
 use Rattle.operators.specs.Complexes.{complexTerms, blank, heldBy, filled, goodTerm, isBlank, validSet}
 use Rattle.operators.specs.declared.term_set.Term.{Term}
 use Rattle.operators.specs.declared.term_set.TermSet.{TermSet}
-use Rattle.operators.proofs.SetLaws.{held-filled}
-use Rattle.terms.proofs.EachLaws.{getD-any, each-follows, each-both, each-run, not-again}
-use Rattle.terms.proofs.PlaceLaws.{held-blanks}
+use Rattle.operators.proofs.SetLaws.{own-held}
+use Rattle.terms.proofs.EachLaws.{getD-any, each-follows, each-both, not-again}
+use Rattle.terms.proofs.PlacesLaws as places
 
 -- ---- blanks
 
@@ -138,52 +136,34 @@ good-nonzero l e = each-follows (goodTerm false) (λ t ts. not (isZero (t .coeff
 -- ---- valid sets
 
 -- what a valid set has
-pub record Valid (zeros : Bool) (s : TermSet) : Type 0 where
-  pub whole : length (s .terms) ≡ mostTerms
-  pub few : s .count ≤ mostTerms
-  pub good : each (goodTerm zeros) (heldBy s) ≡ true
-  pub past : each (λ t ts. isBlank t) (drop (s .count) (s .terms)) ≡ true
+abbrev pub Valid : Bool → TermSet → Type 0
+Valid zeros s = places.Valid (goodTerm zeros) isBlank (s .count) (s .terms)
 
 pub valid-parts : (zeros : Bool) (s : TermSet) → validSet zeros s ≡ true → Valid zeros s
 unfolding validSet
-valid-parts zeros s e =
-    let whole = eqb (length (s .terms)) mostTerms in
-    let few = leb (s .count) mostTerms in
-    let good = each (goodTerm zeros) (heldBy s) in
-    let past = each (λ t ts. isBlank t) (drop (s .count) (s .terms)) in
-    let e1 : (few && (good && past)) ≡ true = and-right whole (few && (good && past)) e in
-    let e2 : (good && past) ≡ true = and-right few (good && past) e1 in
-    record {
-      whole = eqb-true (length (s .terms)) mostTerms (and-left whole (few && (good && past)) e);
-      few = leb-true (s .count) mostTerms (and-left few (good && past) e1);
-      good = and-left good past e2;
-      past = and-right good past e2;
-    }
+valid-parts zeros s = places.valid-parts (goodTerm zeros) isBlank (s .count) (s .terms)
 
 pub valid-by : (zeros : Bool) (s : TermSet) → Valid zeros s → validSet zeros s ≡ true
 unfolding validSet
-valid-by zeros s v =
-    and-true (eq-eqb (length (s .terms)) mostTerms (v .whole)) (and-true (le-leb (s .count) mostTerms (v .few)) (and-true (v .good) (v .past)))
+valid-by zeros s = places.valid-by (goodTerm zeros) isBlank (s .count) (s .terms)
 
 -- every value of the struct passes the first test: the others decide
 pub valid-is : (zeros : Bool) (s : TermSet) → length (s .terms) ≡ mostTerms → validSet zeros s ≡ (leb (s .count) mostTerms && (each (goodTerm zeros) (heldBy s) && each (λ t ts. isBlank t) (drop (s .count) (s .terms))))
 unfolding validSet
-valid-is zeros s whole = rw (eq-eqb (length (s .terms)) mostTerms whole)
+valid-is zeros s = places.valid-is (goodTerm zeros) isBlank (s .count) (s .terms)
 
 module _ (zeros : Bool) (s : TermSet) (e : validSet zeros s ≡ true) where
   -- its places are its terms, and blanks past them
   pub valid-held : Held blank (s .count) (s .terms)
-  valid-held =
-      let v = valid-parts zeros s e in
-      held-blanks isBlank blank blank-only (s .count) (s .terms) (v .whole) (v .few) (v .past)
+  unfolding validSet
+  valid-held = places.valid-held (goodTerm zeros) isBlank (s .count) (s .terms) blank blank-only e
 
   pub valid-count : s .count ≤ mostTerms
   valid-count = valid-parts zeros s e .few
 
   -- it is the set that holds its terms
   pub valid-own : s ≡ filled (heldBy s)
-  unfolding filled
-  valid-own = λ j. record { count = sym (valid-held .long) j; terms = valid-held .pads j }
+  valid-own = own-held s valid-held
 
   -- its terms are good, and so are their products, coefficients and keys
   pub valid-good : each (goodTerm zeros) (heldBy s) ≡ true
@@ -224,18 +204,8 @@ coefficients-without-zeros l e g =
 
 -- the set that holds at most the most terms, each of them good
 pub filled-valid : (zeros : Bool) (l : List Term) → length l ≤ mostTerms → each (goodTerm zeros) l ≡ true → validSet zeros (filled l) ≡ true
-unfolding filled
-filled-valid zeros l few good =
-    let n = length-append l (replicate (mostTerms - length l) blank) in
-    let m = length-replicate (mostTerms - length l) blank in
-    valid-by zeros (filled l) (record {
-      whole = n ∙ omega arith;
-      few = few;
-      good = ap (each (goodTerm zeros)) (held-filled l) ∙ good;
-      past =
-          ap (each (λ t ts. isBlank t)) (drop-at l (replicate (mostTerms - length l) blank) (length l) refl)
-          ∙ each-run isBlank blank blank-passes (mostTerms - length l);
-    })
+unfolding filled validSet
+filled-valid zeros l = places.padded-valid (goodTerm zeros) isBlank blank blank-passes l
 
 -- the empty set
 pub empty-valid : (zeros : Bool) → validSet zeros (filled []) ≡ true

@@ -3,16 +3,16 @@
 use Prim.Native.Nat.{ℕ}
 use mathlib.Core.Bool.{Bool, true, not, _&&_, _||_}
 use mathlib.Core.List.{List, []}
-use lib.Dec.{leb, eqb}
-use lib.ListN.{length, take, drop}
+use lib.ListN.{length, take}
 use Rattle.complex.specs.Complex.{plusZero, sumOf, productOf, conjugateOf, unitOfI, isZero, inRange, isPlusZero}
 use Rattle.complex.specs.declared.Complex.{Complex}
 use Rattle.products.specs.Record.{valid, sameItems}
 use Rattle.products.specs.Answers.{emptyProduct}
 use Rattle.products.specs.declared.items.Items.{Items}
-use Rattle.terms.specs.Keyed.{has, padded, each}
+use Rattle.terms.specs.Keyed.{has, padded}
 use Rattle.terms.specs.Kind.{Terms, Products}
 use Rattle.terms.specs.Setting.{mostTerms, keyed}
+use Rattle.terms.specs.Places.{validPlaces}
 use Rattle.operators.specs.declared.term_set.Term.{Term}
 use Rattle.operators.specs.declared.term_set.TermSet.{TermSet}
 
@@ -61,6 +61,4 @@ isBlank t = sameItems (t .items) emptyProduct && (isPlusZero (t .coefficient .re
 
 -- what number 0 lets pass; only a `PauliOperator` may hold zeros
 unfoldable pub validSet : Bool → TermSet → Bool
-validSet zeros s =
-    eqb (length (s .terms)) mostTerms && (leb (s .count) mostTerms
-    && (each (goodTerm zeros) (heldBy s) && each (λ t ts. isBlank t) (drop (s .count) (s .terms))))
+validSet zeros s = validPlaces (goodTerm zeros) isBlank (s .count) (s .terms)

@@ -2,17 +2,17 @@
 -- Document 01: "Hamiltonian coefficients are real; their second part is answered as +0", and number 0.
 use mathlib.Core.Bool.{Bool, not, _&&_}
 use mathlib.Core.List.{List}
-use lib.Dec.{leb, eqb}
-use lib.ListN.{length, take, drop}
+use lib.ListN.{length, take}
 use lib.Ieee.{Float, binary64, add, eq}
 use Rattle.complex.specs.Complex.{plusZero, partInRange, isPlusZero}
 use Rattle.complex.specs.declared.Complex.{Complex}
 use Rattle.products.specs.Record.{valid, sameItems}
 use Rattle.products.specs.Answers.{emptyProduct}
 use Rattle.products.specs.declared.items.Items.{Items}
-use Rattle.terms.specs.Keyed.{has, padded, each}
+use Rattle.terms.specs.Keyed.{has, padded}
 use Rattle.terms.specs.Kind.{Terms}
 use Rattle.terms.specs.Setting.{mostTerms, keyed}
+use Rattle.terms.specs.Places.{validPlaces}
 use Rattle.operators.specs.Complexes.{termOf}
 use Rattle.operators.specs.declared.term_set.Term.{Term}
 use Rattle.operators.specs.declared.pauli_hamiltonian.RealTerm.{RealTerm}
@@ -63,6 +63,4 @@ isBlank t = sameItems (t .items) emptyProduct && isPlusZero (t .coefficient)
 
 -- what number 0 lets pass
 unfoldable pub validSet : PauliHamiltonian → Bool
-validSet s =
-    eqb (length (s .terms)) mostTerms && (leb (s .count) mostTerms
-    && (each goodTerm (heldBy s) && each (λ t ts. isBlank t) (drop (s .count) (s .terms))))
+validSet s = validPlaces goodTerm isBlank (s .count) (s .terms)

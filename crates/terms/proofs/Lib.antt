@@ -4,5 +4,7 @@ pub mod SummedLaws
 pub mod Totals
 pub mod PlaceLaws
 pub mod EachLaws
+pub mod FilledLaws
+pub mod PlacesLaws
 pub mod WriteLaws
 pub mod RunLaws

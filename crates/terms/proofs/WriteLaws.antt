@@ -6,25 +6,19 @@ use native.Mathlib.Omega.{arith}
 use mathlib.Core.Path.{_≡_, sym, ap, _∙_}
 use mathlib.Core.Bool.{Bool, true, false, cond}
 use mathlib.Core.List.{List}
-use lib.ListN.{length, take, set}
-use Rattle.terms.specs.Keyed.{firstAt, padded, omitted}
+use lib.ListN.{take, set}
+use Rattle.terms.specs.Keyed.{firstAt, omitted}
 use Rattle.terms.specs.Kind.{Terms}
 use Rattle.terms.specs.Setting.{mostTerms, keyed, write, hasRoom}
+use Rattle.terms.proofs.FilledLaws.{Sets, filled-made}
 use Rattle.terms.proofs.SettingLaws.{Held, found-room, struck-is, replaced-count, replaced-places, free-room, free-count, free-places, full-room, appended-room, appended-count, appended-places}
 
--- a kind of set: what stands past the count, the record of a count and places, and the record that holds given terms
-pub record Sets {K N : Type 0} (S : Terms K N) (R : Type 0) : Type 0 where
-  pub blank : S .Term
-  pub make : ℕ → List (S .Term) → R
-  pub filled : List (S .Term) → R
-  pub fills : (n : ℕ) (t l : List (S .Term)) → n ≡ length l → t ≡ padded mostTerms blank l → make n t ≡ filled l
-
 -- what `put` answers
-abbrev pub Puts : {K N R : Type 0} (S : Terms K N) → Sets S R → K → N → ℕ → List (S .Term) → Bool → R → Type 0
+abbrev pub Puts : {K N R : Type 0} (S : Terms K N) → Sets (S .Term) R → K → N → ℕ → List (S .Term) → Bool → R → Type 0
 Puts S T k a n t room w =
     (room ≡ hasRoom S k a (take n t)) × (w ≡ cond (hasRoom S k a (take n t)) (T .filled (write S k a (take n t))) (T .make n t))
 
-module _ {K N R : Type 0} (S : Terms K N) (T : Sets S R) (k : K) (a : N) (n : ℕ) (t : List (S .Term)) where
+module _ {K N R : Type 0} (S : Terms K N) (T : Sets (S .Term) R) (k : K) (a : N) (n : ℕ) (t : List (S .Term)) where
   -- by whether there is room
   puts-room : (w : R) → hasRoom S k a (take n t) ≡ true → w ≡ T .filled (write S k a (take n t)) → Puts S T k a n t true w
   puts-room w b e = (sym b, rw b e)
@@ -42,13 +36,13 @@ module _ {K N R : Type 0} (S : Terms K N) (T : Sets S R) (k : K) (a : N) (n : �
     pub puts-replaced : i < n → S .isZero a ≡ false → Puts S T k a n t true (T .make n (set t i (S .term k a)))
     puts-replaced m z =
         puts-room _ (found-room S (T .blank) k n t h i (sym f) m a)
-        (T .fills _ _ _ (replaced-count S (T .blank) k n t h i (sym f) m a z) (replaced-places S (T .blank) k n t h i (sym f) m a z))
+        (filled-made T _ _ _ (replaced-count S (T .blank) k n t h i (sym f) m a z) (replaced-places S (T .blank) k n t h i (sym f) m a z))
 
     -- the key is free: with zero nothing changes, and another coefficient comes last or finds no room
     pub puts-free : n ≤ i → S .isZero a ≡ true → Puts S T k a n t true (T .make n t)
     puts-free m z =
         let free : n ≤ firstAt (keyed S k) (take n t) = omega arith in
-        puts-room _ (free-room S (T .blank) k n t h free a z) (T .fills _ _ _ (free-count S (T .blank) k n t h free a z) (free-places S (T .blank) k n t h free a z))
+        puts-room _ (free-room S (T .blank) k n t h free a z) (filled-made T _ _ _ (free-count S (T .blank) k n t h free a z) (free-places S (T .blank) k n t h free a z))
 
     pub puts-full : n ≤ i → S .isZero a ≡ false → mostTerms ≤ n → Puts S T k a n t false (T .make n t)
     puts-full m z e =
@@ -58,4 +52,4 @@ module _ {K N R : Type 0} (S : Terms K N) (T : Sets S R) (k : K) (a : N) (n : �
     pub puts-appended : n ≤ i → S .isZero a ≡ false → n < mostTerms → Puts S T k a n t true (T .make (n + 1) (set t n (S .term k a)))
     puts-appended m z e =
         let free : n ≤ firstAt (keyed S k) (take n t) = omega arith in
-        puts-room _ (appended-room S (T .blank) k n t h free a e) (T .fills _ _ _ (appended-count S (T .blank) k n t h free a z) (appended-places S (T .blank) k n t h free a z e))
+        puts-room _ (appended-room S (T .blank) k n t h free a e) (filled-made T _ _ _ (appended-count S (T .blank) k n t h free a z) (appended-places S (T .blank) k n t h free a z e))

@@ -1,0 +1,119 @@
+// The systems whose rows are run.
+use complex::Complex;
+use noise::noise_set::NoiseSet;
+use open_system::PauliOpenSystem;
+use operators::pauli_hamiltonian::PauliHamiltonian;
+use products::items::Items;
+use products::pauli_product::PauliProduct;
+
+// The letter of a seed's product on a site: X or Y where the seed has the bit, else Z on each third site.
+fn letter(seed: u8, site: u8) -> u8 {
+    if (seed >> (site % 8)) % 2 == 1 {
+        return 1 + site % 2;
+    }
+    if site % 3 == 0 { 3 } else { 0 }
+}
+
+// The product of a seed, on up to 31 sites. Products of different seeds flip different spins.
+fn seeded(seed: u8) -> Items {
+    let mut p = products::items::empty();
+    let mut site: u8 = 0;
+    while site < 31 {
+        let a = products::put::set_pauli(p, site, letter(seed, site));
+        p = a.items;
+        site += 1;
+    }
+    p
+}
+
+// The product of one letter.
+fn single(site: u8, letter: u8) -> Items {
+    let a = products::put::set_pauli(products::items::empty(), site, letter);
+    a.items
+}
+
+// 64 terms with the coefficients 1 to 64.
+fn full_hamiltonian() -> PauliHamiltonian {
+    let mut h = PauliHamiltonian::new();
+    let mut value = 1.0;
+    let mut i: u8 = 0;
+    while i < 64 {
+        let p = seeded(i + 1);
+        let a = h.set(PauliProduct { items: p }, value);
+        h = a.set;
+        value = value + 1.0;
+        i += 1;
+    }
+    h
+}
+
+// 64 pairs with the coefficients 2 + 254i, 4 + 252i, to 128 + 128i.
+fn full_noise() -> NoiseSet {
+    let mut s = noise::noise_set::empty_set();
+    let mut value = 2.0;
+    let mut i: u8 = 0;
+    while i < 64 {
+        let p = seeded(255 - 2 * i);
+        let q = seeded(i + 1);
+        let z = Complex {
+            re: value,
+            im: 256.0 - value,
+        };
+        let a = noise::noise_set::set(s, p, q, z);
+        s = a.set;
+        value = value + 2.0;
+        i += 1;
+    }
+    s
+}
+
+// As many terms as a system holds, and no two of the contributions to a row in one column.
+pub(crate) fn full() -> PauliOpenSystem {
+    let h = full_hamiltonian();
+    let s = full_noise();
+    PauliOpenSystem {
+        system: h,
+        noise: s,
+    }
+}
+
+// 3 times Z0, with the noise (X0, X0), 2.
+pub(crate) fn worked() -> PauliOpenSystem {
+    let z = single(0, 3);
+    let x = single(0, 1);
+    let a = PauliHamiltonian::new().set(PauliProduct { items: z }, 3.0);
+    let two = Complex { re: 2.0, im: 0.0 };
+    let b = noise::noise_set::set(noise::noise_set::empty_set(), x, x, two);
+    let h = a.set;
+    let s = b.set;
+    PauliOpenSystem {
+        system: h,
+        noise: s,
+    }
+}
+
+// X on one site, without noise.
+pub(crate) fn at_site(site: u8) -> PauliOpenSystem {
+    let x = single(site, 1);
+    let a = PauliHamiltonian::new().set(PauliProduct { items: x }, 5.0);
+    let h = a.set;
+    let s = noise::noise_set::empty_set();
+    PauliOpenSystem {
+        system: h,
+        noise: s,
+    }
+}
+
+// The noise (X0, X) with its right side on a site, 6, without a Hamiltonian.
+pub(crate) fn noise_at_site(site: u8) -> PauliOpenSystem {
+    let x = single(0, 1);
+    let y = single(site, 1);
+    let six = Complex { re: 6.0, im: 0.0 };
+    let a = noise::noise_set::set(noise::noise_set::empty_set(), x, y, six);
+    let h = PauliHamiltonian::new();
+    let s = a.set;
+    PauliOpenSystem {
+        system: h,
+        noise: s,
+    }
+}
