@@ -30,12 +30,12 @@ use Rattle.rows.specs.Calls.{outside, unlessOutside, checkedRow, RowCall}
 use Rattle.rows.proofs.ArrayLaws.{entries-none}
 use Rattle.rows.proofs.CallLaws.{call-delivered, call-refused}
 use Rattle.rows.proofs.EntryLaws.{Within, noise-contributes}
-use Rattle.noise.specs.Pairs.{heldBy, validSet}
+use Rattle.noise.specs.Pairs.{heldBy, goodKey, validSet}
 use Rattle.noise.specs.Answers.{validKey}
 use Rattle.noise.specs.NoiseRows.{itemsOf, noiseContributions, noiseRow}
 use Rattle.noise.specs.declared.noise_set.NoiseTerm.{NoiseTerm}
 use Rattle.noise.specs.declared.noise_set.NoiseSet.{NoiseSet}
-use Rattle.noise.proofs.ValidLaws.{keyOf, goodKey, valid-keys, valid-parts}
+use Rattle.noise.proofs.ValidLaws.{keyOf, valid-keys, valid-parts}
 
 -- ---- products that do not fit
 

@@ -3,14 +3,14 @@
 use Prim.Native.Nat.{ℕ, _≤_, _<_}
 use native.Mathlib.Omega.{arith}
 use mathlib.Core.Path.{_≡_, refl, sym, ap}
-use mathlib.Core.Bool.{Bool, true, false, not, _&&_, _||_, cond, true≢false}
+use mathlib.Core.Bool.{Bool, true, false, not, _&&_, _||_, cond}
 use mathlib.Core.List.{List, [], _∷_, _++_}
 use mathlib.Core.Option.{Option, none, some}
 use lib.Dec.{eqb}
 use lib.ListN.{length}
 use borrow.Author.Tests.{eqb-false, ne-eqb, not-true}
 use Rattle.refusal.specs.Refusals.{Said, gives, refuses, done}
-use Rattle.letters.proofs.TestLaws.{and-true, and-right}
+use Rattle.letters.proofs.TestLaws.{and-true, and-left, and-right}
 use Rattle.complex.specs.Complex.{isZero, inRange}
 use Rattle.complex.specs.declared.Complex.{Complex}
 use Rattle.products.specs.Lists.{at}
@@ -30,12 +30,12 @@ use Rattle.operators.specs.declared.term_set.Term.{Term}
 use Rattle.operators.specs.declared.term_set.TermSet.{TermSet}
 use Rattle.operators.proofs.ValidLaws.{valid-products}
 use Rattle.operators.proofs.ValidAnswers.{Accepts, Keeps, accepts-refused, accepts-given, accepts-past, keeps-refused, keeps-given, keeps-past, HasValid}
-use Rattle.noise.specs.Pairs.{Key, pairTerms, pairOf, isEmpty, heldBy, filled, validSet}
+use Rattle.noise.specs.Pairs.{Key, pairTerms, pairOf, isEmpty, heldBy, filled, goodKey, validSet}
 use Rattle.noise.specs.Answers.{validKey, emptySide, setPair, addPair, allInRange, collected, addFullOperators, ended, andThen, remapAll, remapSet}
 use Rattle.noise.specs.Chained.{State}
 use Rattle.noise.specs.declared.noise_set.NoiseTerm.{NoiseTerm}
 use Rattle.noise.specs.declared.noise_set.NoiseSet.{NoiseSet}
-use Rattle.noise.proofs.ValidLaws.{keyOf, pairs-alike, goodKey, key-good, valid-held, valid-keys, valid-ranges, valid-nonzero, valid-different, all-good, coefficients-good, filled-valid}
+use Rattle.noise.proofs.ValidLaws.{keyOf, pairs-alike, key-good, valid-held, valid-keys, valid-ranges, valid-nonzero, valid-different, all-good, coefficients-good, filled-valid}
 
 -- ---- a test that refuses where it is passed
 
@@ -261,21 +261,15 @@ moved-occupied t p e d =
     let place = letter-occupied q (t site) (omega (arith, remap-letter t p m site occupied, occupied)) in
     record { fine = remap-valid t p m; there = ne-eqb (q .count) 0 (λ z. omega (arith, place .1, z)) }
 
--- the left side of a good key is not empty
-left-there : (k : Key) → goodKey k ≡ true → isEmpty (k .0) ≡ false
-left-there k g = go (isEmpty (k .0)) (isEmpty (k .1)) (not-true (emptySide k) (and-right (validKey k) (not (emptySide k)) g))
-  where
-    go : (a b : Bool) → (a || b) ≡ false → a ≡ false
-    go true b e = e
-    go false b e = refl
+-- neither side of a good key is empty
+sides-there : (k : Key) → goodKey k ≡ true → (not (isEmpty (k .0)) && not (isEmpty (k .1))) ≡ true
+sides-there k = and-right (validKey k) (not (isEmpty (k .0)) && not (isEmpty (k .1)))
 
--- nor is the right one
+left-there : (k : Key) → goodKey k ≡ true → isEmpty (k .0) ≡ false
+left-there k g = not-true (isEmpty (k .0)) (and-left (not (isEmpty (k .0))) (not (isEmpty (k .1))) (sides-there k g))
+
 right-there : (k : Key) → goodKey k ≡ true → isEmpty (k .1) ≡ false
-right-there k g = go (isEmpty (k .0)) (isEmpty (k .1)) (not-true (emptySide k) (and-right (validKey k) (not (emptySide k)) g))
-  where
-    go : (a b : Bool) → (a || b) ≡ false → b ≡ false
-    go true b e = absurd (true≢false e)
-    go false b e = e
+right-there k g = not-true (isEmpty (k .1)) (and-right (not (isEmpty (k .0))) (not (isEmpty (k .1))) (sides-there k g))
 
 -- the key of a moved term
 moved-good : (t : ℕ → ℕ) (k : Key) → goodKey k ≡ true → remapAnswer t (k .0) .0 ≡ done → remapAnswer t (k .1) .0 ≡ done → goodKey (remapAnswer t (k .0) .1, remapAnswer t (k .1) .1) ≡ true

@@ -3,15 +3,13 @@
 -- Assumes nothing.
 use Prim.Native.Nat.{ℕ, _+_, _≤_, _<_}
 use native.Mathlib.Omega.{arith}
-use mathlib.Core.Path.{_≡_, refl, sym, ap, _∙_}
+use mathlib.Core.Path.{_≡_, refl, ap, _∙_}
 use mathlib.Core.Bool.{Bool, true, false, not, _&&_, _||_}
 use mathlib.Core.List.{List, []}
 use lib.Dec.{leb, eqb}
 use lib.ListN.{length, drop, getD}
-use lib.Seq.{getD-take, length-take-le}
-use Rattle.letters.proofs.TestLaws.{and-true, and-left, and-right, and-false}
+use Rattle.letters.proofs.TestLaws.{and-true, and-left, and-right}
 use Rattle.complex.specs.Complex.{isZero, inRange, isPlusZero}
-use Rattle.complex.specs.declared.Complex.{Complex}
 use Rattle.complex.proofs.ZeroLaws.{plus-zero-only, plus-zero-passes}
 use Rattle.products.specs.Record.{sameItems}
 use Rattle.products.specs.Answers.{emptyProduct}
@@ -19,9 +17,10 @@ use Rattle.products.proofs.SameLaws.{same-self, same-equal}
 use Rattle.terms.specs.Keyed.{firstAt, each}
 use Rattle.terms.specs.Setting.{mostTerms, keyed}
 use Rattle.terms.proofs.SettingLaws.{Held, Alike, alike-by, different}
-use Rattle.terms.proofs.EachLaws.{getD-any, each-follows, each-both, not-again}
+use Rattle.terms.proofs.EachLaws.{each-follows, each-both}
 use Rattle.terms.proofs.PlacesLaws as places
-use Rattle.noise.specs.Pairs.{Key, sameKey, pairTerms, isEmpty, blank, heldBy, filled, goodTerm, isBlank, validSet}
+use Rattle.terms.proofs.GoodLaws as good
+use Rattle.noise.specs.Pairs.{Key, sameKey, pairTerms, isEmpty, blank, heldBy, filled, goodKey, goodCoefficient, goodTerm, isBlank, validSet}
 use Rattle.noise.specs.Answers.{validKey, emptySide}
 use Rattle.noise.specs.declared.noise_set.NoiseTerm.{NoiseTerm}
 use Rattle.noise.specs.declared.noise_set.NoiseSet.{NoiseSet}
@@ -68,106 +67,37 @@ blank-only t e =
     let i = plus-zero-only (t .coefficient .im) (and-right re im parts) in
     λ j. record { left = k j .0; right = k j .1; coefficient = record { re = r j; im = i j } }
 
--- ---- good terms
-
--- a key and a coefficient that a valid set holds
-abbrev pub goodKey : Key → Bool
-goodKey k = validKey k && not (emptySide k)
-
-abbrev pub goodCoefficient : Complex → Bool
-goodCoefficient a = inRange a && not (isZero a)
-
--- the test of a term, by its key, its coefficient and the later terms
-good-term-is : (t : NoiseTerm) (ts : List NoiseTerm) → goodTerm t ts ≡ (goodKey (keyOf t) && (goodCoefficient (t .coefficient) && different pairTerms t ts))
-unfolding goodTerm
-good-term-is t ts = regroup (validKey (keyOf t)) (isEmpty (t .left)) (isEmpty (t .right)) (goodCoefficient (t .coefficient) && different pairTerms t ts)
-  where
-    regroup : (a x y r : Bool) → (a && ((not x && not y) && r)) ≡ ((a && not (x || y)) && r)
-    regroup false x y r = refl
-    regroup true true y r = refl
-    regroup true false y r = refl
-
--- from its three tests
-pub good-by : (t : NoiseTerm) (ts : List NoiseTerm) → goodKey (keyOf t) ≡ true → goodCoefficient (t .coefficient) ≡ true → different pairTerms t ts ≡ true → goodTerm t ts ≡ true
-good-by t ts v c k = good-term-is t ts ∙ and-true v (and-true c k)
-
-module _ (t : NoiseTerm) (ts : List NoiseTerm) (e : goodTerm t ts ≡ true) where
-  three : (goodKey (keyOf t) && (goodCoefficient (t .coefficient) && different pairTerms t ts)) ≡ true
-  three = sym (good-term-is t ts) ∙ e
-
-  pub good-key : goodKey (keyOf t) ≡ true
-  good-key = and-left (goodKey (keyOf t)) (goodCoefficient (t .coefficient) && different pairTerms t ts) three
-
-  last-two : (goodCoefficient (t .coefficient) && different pairTerms t ts) ≡ true
-  last-two = and-right (goodKey (keyOf t)) (goodCoefficient (t .coefficient) && different pairTerms t ts) three
-
-  pub good-coefficient : goodCoefficient (t .coefficient) ≡ true
-  good-coefficient = and-left (goodCoefficient (t .coefficient)) (different pairTerms t ts) last-two
-
-  pub good-in-range : inRange (t .coefficient) ≡ true
-  good-in-range = and-left (inRange (t .coefficient)) (not (isZero (t .coefficient))) good-coefficient
-
-  pub good-nonzero : not (isZero (t .coefficient)) ≡ true
-  good-nonzero = and-right (inRange (t .coefficient)) (not (isZero (t .coefficient))) good-coefficient
-
-  pub good-different : different pairTerms t ts ≡ true
-  good-different = and-right (goodCoefficient (t .coefficient)) (different pairTerms t ts) last-two
-
 -- ---- the term at a place, which code reads as `getD (s .terms) i d`
 
 module _ (s : NoiseSet) (i : ℕ) (d : NoiseTerm) (whole : length (s .terms) ≡ mostTerms) (few : s .count ≤ mostTerms) (h : i < s .count) where
-  held-long : length (heldBy s) ≡ s .count
-  held-long = length-take-le (s .count) (s .terms) (omega arith)
-
-  read-is : getD (heldBy s) i blank ≡ getD (s .terms) i d
-  read-is = getD-any (heldBy s) i blank d (omega (arith, held-long)) ∙ getD-take (s .count) (s .terms) i d h
-
-  place-is : goodTerm (getD (heldBy s) i blank) (drop (i + 1) (heldBy s)) ≡ (goodKey (keyOf (getD (s .terms) i d)) && (goodCoefficient (getD (s .terms) i d .coefficient) && different pairTerms (getD (s .terms) i d) (drop (i + 1) (heldBy s))))
-  place-is = ap (λ (t : NoiseTerm). goodTerm t (drop (i + 1) (heldBy s))) read-is ∙ good-term-is (getD (s .terms) i d) (drop (i + 1) (heldBy s))
-
   -- its key is none that a valid set holds
   pub bad-key : goodKey (keyOf (getD (s .terms) i d)) ≡ false → false ≡ goodTerm (getD (heldBy s) i blank) (drop (i + 1) (heldBy s))
-  bad-key v = rw (place-is, v)
+  bad-key = good.bad-key pairTerms goodKey goodCoefficient blank (s .count) (s .terms) i d whole few h
 
   -- its coefficient is none that a valid set holds
   pub bad-coefficient : goodCoefficient (getD (s .terms) i d .coefficient) ≡ false → false ≡ goodTerm (getD (heldBy s) i blank) (drop (i + 1) (heldBy s))
-  bad-coefficient c = sym (place-is ∙ rw c (and-false (goodKey (keyOf (getD (s .terms) i d))) false refl))
+  bad-coefficient = good.bad-coefficient pairTerms goodKey goodCoefficient blank (s .count) (s .terms) i d whole few h
 
   -- both are good: the search for its key past its place answers r
   pub by-key : goodKey (keyOf (getD (s .terms) i d)) ≡ true → goodCoefficient (getD (s .terms) i d .coefficient) ≡ true
       → (r : ℕ) → r ≡ i + 1 + firstAt (keyed pairTerms (keyOf (getD (s .terms) i d))) (drop (i + 1) (heldBy s))
       → eqb r (s .count) ≡ goodTerm (getD (heldBy s) i blank) (drop (i + 1) (heldBy s))
-  by-key v c r e =
-      let once = not-again (keyed pairTerms (keyOf (getD (s .terms) i d))) (heldBy s) i (s .count) held-long h in
-      ap (λ (k : ℕ). eqb k (s .count)) e ∙ once ∙ sym (place-is ∙ rw (v, c))
+  by-key = good.by-key pairTerms goodKey goodCoefficient blank (s .count) (s .terms) i d whole few h
+
+-- neither of two, said in two ways
+neither : (x y : Bool) → (not x && not y) ≡ not (x || y)
+neither true y = refl
+neither false y = refl
 
 -- the key's two tests
 pub key-not-valid : (k : Key) → validKey k ≡ false → goodKey k ≡ false
 key-not-valid k e = rw e
 
 pub key-empty : (k : Key) → validKey k ≡ true → emptySide k ≡ true → goodKey k ≡ false
-key-empty k v e = rw (v, e)
+key-empty k v e = rw v (neither (isEmpty (k .0)) (isEmpty (k .1)) ∙ ap not e)
 
 pub key-good : (k : Key) → validKey k ≡ true → emptySide k ≡ false → goodKey k ≡ true
-key-good k v e = rw (v, e)
-
--- ---- a list of good terms: what each of them has
-
-module _ (l : List NoiseTerm) (e : each goodTerm l ≡ true) where
-  pub good-keys : each (λ t ts. goodKey (keyOf t)) l ≡ true
-  good-keys = each-follows goodTerm (λ t ts. goodKey (keyOf t)) good-key l e
-
-  pub good-coefficients : each (λ t ts. goodCoefficient (t .coefficient)) l ≡ true
-  good-coefficients = each-follows goodTerm (λ t ts. goodCoefficient (t .coefficient)) good-coefficient l e
-
-  pub good-ranges : each (λ t ts. inRange (t .coefficient)) l ≡ true
-  good-ranges = each-follows goodTerm (λ t ts. inRange (t .coefficient)) good-in-range l e
-
-  pub good-nonzeros : each (λ t ts. not (isZero (t .coefficient))) l ≡ true
-  good-nonzeros = each-follows goodTerm (λ t ts. not (isZero (t .coefficient))) good-nonzero l e
-
-  pub good-differents : each (different pairTerms) l ≡ true
-  good-differents = each-follows goodTerm (different pairTerms) good-different l e
+key-good k v e = and-true v (neither (isEmpty (k .0)) (isEmpty (k .1)) ∙ ap not e)
 
 -- ---- valid sets
 
@@ -178,10 +108,6 @@ Valid s = places.Valid goodTerm isBlank (s .count) (s .terms)
 pub valid-parts : (s : NoiseSet) → validSet s ≡ true → Valid s
 unfolding validSet
 valid-parts s = places.valid-parts goodTerm isBlank (s .count) (s .terms)
-
-pub valid-by : (s : NoiseSet) → Valid s → validSet s ≡ true
-unfolding validSet
-valid-by s = places.valid-by goodTerm isBlank (s .count) (s .terms)
 
 -- every value of the struct passes the first test: the others decide
 pub valid-is : (s : NoiseSet) → length (s .terms) ≡ mostTerms → validSet s ≡ (leb (s .count) mostTerms && (each goodTerm (heldBy s) && each (λ t ts. isBlank t) (drop (s .count) (s .terms))))
@@ -202,32 +128,32 @@ module _ (s : NoiseSet) (e : validSet s ≡ true) where
   valid-own = own-held s valid-held
 
   -- its terms are good, and so are their keys and coefficients, and no key comes twice
-  pub valid-good : each goodTerm (heldBy s) ≡ true
+  valid-good : each goodTerm (heldBy s) ≡ true
   valid-good = valid-parts s e .good
 
   pub valid-keys : each (λ t ts. goodKey (keyOf t)) (heldBy s) ≡ true
-  valid-keys = good-keys (heldBy s) valid-good
+  valid-keys = good.good-keys pairTerms goodKey goodCoefficient (heldBy s) valid-good
+
+  valid-coefficients : each (λ t ts. goodCoefficient (t .coefficient)) (heldBy s) ≡ true
+  valid-coefficients = good.good-coefficients pairTerms goodKey goodCoefficient (heldBy s) valid-good
 
   pub valid-ranges : each (λ t ts. inRange (t .coefficient)) (heldBy s) ≡ true
-  valid-ranges = good-ranges (heldBy s) valid-good
+  valid-ranges =
+      each-follows (λ t ts. goodCoefficient (t .coefficient)) (λ t ts. inRange (t .coefficient)) (λ t ts. and-left (inRange (t .coefficient)) (not (isZero (t .coefficient)))) (heldBy s) valid-coefficients
 
   pub valid-nonzero : each (λ t ts. not (isZero (t .coefficient))) (heldBy s) ≡ true
-  valid-nonzero = good-nonzeros (heldBy s) valid-good
+  valid-nonzero =
+      each-follows (λ t ts. goodCoefficient (t .coefficient)) (λ t ts. not (isZero (t .coefficient))) (λ t ts. and-right (inRange (t .coefficient)) (not (isZero (t .coefficient)))) (heldBy s) valid-coefficients
 
   pub valid-different : each (different pairTerms) (heldBy s) ≡ true
-  valid-different = good-differents (heldBy s) valid-good
+  valid-different = good.good-differents pairTerms goodKey goodCoefficient (heldBy s) valid-good
 
 -- ---- good terms make a valid set
 
 -- from tests of each term alone, and of keys
 pub all-good : (l : List NoiseTerm) → each (λ t ts. goodKey (keyOf t)) l ≡ true → each (λ t ts. goodCoefficient (t .coefficient)) l ≡ true → each (different pairTerms) l ≡ true
     → each goodTerm l ≡ true
-all-good l v c k =
-    each-both (λ t ts. goodKey (keyOf t)) (λ t ts. goodCoefficient (t .coefficient) && different pairTerms t ts) goodTerm
-    (λ t ts a b. good-by t ts a (and-left (goodCoefficient (t .coefficient)) (different pairTerms t ts) b) (and-right (goodCoefficient (t .coefficient)) (different pairTerms t ts) b))
-    l
-    v
-    (each-both (λ t ts. goodCoefficient (t .coefficient)) (different pairTerms) (λ t ts. goodCoefficient (t .coefficient) && different pairTerms t ts) (λ t ts a b. and-true a b) l c k)
+all-good = good.all-good pairTerms goodKey goodCoefficient
 
 -- coefficients in range, none of them zero
 pub coefficients-good : (l : List NoiseTerm) → each (λ t ts. inRange (t .coefficient)) l ≡ true → each (λ t ts. not (isZero (t .coefficient))) l ≡ true → each (λ t ts. goodCoefficient (t .coefficient)) l ≡ true

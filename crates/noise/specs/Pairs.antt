@@ -9,10 +9,10 @@ use Rattle.complex.specs.declared.Complex.{Complex}
 use Rattle.products.specs.Record.{valid, sameItems}
 use Rattle.products.specs.Answers.{emptyProduct}
 use Rattle.products.specs.declared.items.Items.{Items}
-use Rattle.terms.specs.Keyed.{has, padded}
+use Rattle.terms.specs.Keyed.{padded}
 use Rattle.terms.specs.Kind.{Terms}
-use Rattle.terms.specs.Setting.{mostTerms, keyed}
-use Rattle.terms.specs.Places.{validPlaces}
+use Rattle.terms.specs.Setting.{mostTerms}
+use Rattle.terms.specs.Places as places
 use Rattle.operators.specs.Complexes.{zeroComplex}
 use Rattle.noise.specs.declared.noise_set.NoiseTerm.{NoiseTerm}
 use Rattle.noise.specs.declared.noise_set.NoiseSet.{NoiseSet}
@@ -56,12 +56,17 @@ heldBy s = take (s .count) (s .terms)
 unfoldable pub filled : List NoiseTerm → NoiseSet
 filled l = record { count = length l; terms = padded mostTerms blank l }
 
--- a held term: two valid products, neither empty, a coefficient in range that is not zero, and no later term with its key
-unfoldable pub goodTerm : NoiseTerm → List NoiseTerm → Bool
-goodTerm t ts =
-    (valid (t .left) && valid (t .right))
-    && ((not (isEmpty (t .left)) && not (isEmpty (t .right)))
-    && ((inRange (t .coefficient) && not (isZero (t .coefficient))) && not (has (keyed pairTerms (t .left, t .right)) ts)))
+-- a key of a held term: two valid products, neither empty
+abbrev pub goodKey : Key → Bool
+goodKey k = (valid (k .0) && valid (k .1)) && (not (isEmpty (k .0)) && not (isEmpty (k .1)))
+
+-- a coefficient of a held term: in range, and not zero
+abbrev pub goodCoefficient : Complex → Bool
+goodCoefficient a = inRange a && not (isZero a)
+
+-- a held term: a good key, a good coefficient, and no later term with its key
+abbrev pub goodTerm : NoiseTerm → List NoiseTerm → Bool
+goodTerm = places.goodTerm pairTerms goodKey goodCoefficient
 
 -- a term of zeros, +0 in its floats
 unfoldable pub isBlank : NoiseTerm → Bool
@@ -71,4 +76,4 @@ isBlank t =
 
 -- what number 0 lets pass
 unfoldable pub validSet : NoiseSet → Bool
-validSet s = validPlaces goodTerm isBlank (s .count) (s .terms)
+validSet s = places.validPlaces goodTerm isBlank (s .count) (s .terms)

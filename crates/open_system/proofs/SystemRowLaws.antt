@@ -5,7 +5,7 @@ use native.Mathlib.Numerals.{add-one}
 use native.Mathlib.Nat.{le-of-suc-le-suc, not-suc-le-zero}
 use native.Mathlib.Omega.{arith}
 use mathlib.Core.Path.{_≡_, refl, sym, ap, _∙_, subst}
-use mathlib.Core.Bool.{Bool, true, false, not, cond}
+use mathlib.Core.Bool.{Bool, true, false, not, _&&_, cond}
 use mathlib.Core.List.{List, [], _∷_, _++_, map, append-assoc}
 use lib.Dec.{ltb}
 use lib.Ieee.{Float}
@@ -19,7 +19,7 @@ use Rattle.complex.specs.declared.Complex.{Complex}
 use Rattle.letters.proofs.TestLaws.{and-left, and-right}
 use Rattle.products.specs.Record.{valid, letterAt, reach}
 use Rattle.products.specs.declared.items.Items.{Items}
-use Rattle.terms.specs.Keyed.{concatMap, each}
+use Rattle.terms.specs.Keyed.{concatMap}
 use Rattle.terms.proofs.KeyedLaws.{concatMap-nil, concatMap-cons, concatMap-more, each-at}
 use Rattle.rows.specs.Numbers.{floats, minusHalfUnit}
 use Rattle.rows.specs.Contributions.{commutatorTerms, noiseTerms}
@@ -34,7 +34,7 @@ use Rattle.operators.specs.declared.pauli_hamiltonian.RealTerm.{RealTerm}
 use Rattle.operators.specs.declared.pauli_hamiltonian.PauliHamiltonian.{PauliHamiltonian}
 use Rattle.operators.proofs.RealValidLaws as real-laws
 use Rattle.noise.specs.Pairs as pairs
-use Rattle.noise.specs.Answers.{validKey, emptySide}
+use Rattle.noise.specs.Answers.{validKey}
 use Rattle.noise.specs.NoiseRows as noise
 use Rattle.noise.specs.declared.noise_set.NoiseTerm.{NoiseTerm}
 use Rattle.noise.specs.declared.noise_set.NoiseSet.{NoiseSet}
@@ -258,9 +258,9 @@ module _ (s : NoiseSet) (spins i : ℕ) (d : NoiseTerm) (v : pairs.validSet s �
   both-valid : validKey (getD (s .terms) i d .left, getD (s .terms) i d .right) ≡ true
   both-valid =
       let t = getD (s .terms) i d in
-      and-left (validKey (t .left, t .right)) (not (emptySide (t .left, t .right)))
-      (ap (λ (t : NoiseTerm). pair-laws.goodKey (pair-laws.keyOf t)) (sym side-at)
-      ∙ each-at (λ (t : NoiseTerm) (ts : List NoiseTerm). pair-laws.goodKey (pair-laws.keyOf t)) (pairs.heldBy s) i d side-room (pair-laws.valid-keys s v))
+      and-left (validKey (t .left, t .right)) (not (pairs.isEmpty (t .left)) && not (pairs.isEmpty (t .right)))
+      (ap (λ (t : NoiseTerm). pairs.goodKey (pair-laws.keyOf t)) (sym side-at)
+      ∙ each-at (λ (t : NoiseTerm) (ts : List NoiseTerm). pairs.goodKey (pair-laws.keyOf t)) (pairs.heldBy s) i d side-room (pair-laws.valid-keys s v))
 
   both-inside : outside spins (sides (getD (s .terms) i d)) ≡ []
   both-inside =

@@ -20,12 +20,12 @@ use Rattle.terms.specs.Setting.{write, hasRoom, added}
 use Rattle.terms.proofs.KeyedLaws.{All, all-each}
 use Rattle.terms.proofs.SettingLaws.{Alike, alike-by, write-length, keys-write, each-write, each-write-other}
 use Rattle.operators.specs.Complexes as complexes
-use Rattle.operators.specs.Reals.{realTerms, complexTerm, heldBy, filled, validSet}
+use Rattle.operators.specs.Reals.{realTerms, complexTerm, heldBy, filled, goodCoefficient, validSet}
 use Rattle.operators.specs.RealAnswers.{setReal, addReal, conjugateReal, multiplyReals, intoOperator}
 use Rattle.operators.specs.declared.term_set.TermSet.{TermSet}
 use Rattle.operators.specs.declared.pauli_hamiltonian.RealTerm.{RealTerm}
 use Rattle.operators.specs.declared.pauli_hamiltonian.PauliHamiltonian.{PauliHamiltonian}
-use Rattle.operators.proofs.RealValidLaws.{goodCoefficient, good-coefficients, valid-good, valid-products, valid-keys, valid-held, all-good, filled-valid}
+use Rattle.operators.proofs.RealValidLaws.{valid-coefficients, valid-products, valid-keys, valid-held, all-good, filled-valid}
 use Rattle.operators.proofs.ValidAnswers.{Accepts, Keeps, accepts-given, accepts-past, keeps-given, keeps-past, all-results, HasValid, chain-accepts, chain-keeps, times-products}
 
 -- ---- one term
@@ -44,7 +44,7 @@ write-valid s k a v w r room =
     (write-length realTerms k a l room (omega (arith, h .long, h .few)))
     (all-good (write realTerms k a l)
     (each-write realTerms (λ t. valid (t .items)) k a l (valid-products s v) w)
-    (each-write-other realTerms (λ t. goodCoefficient (t .coefficient)) k a l (good-coefficients l (valid-good s v)) (λ z. and-true r (ap not z)))
+    (each-write-other realTerms (λ t. goodCoefficient (t .coefficient)) k a l (valid-coefficients s v) (λ z. and-true r (ap not z)))
     (keys-write realTerms real-alike k a l (valid-keys s v)))
 
 module _ (s : PauliHamiltonian) (k : Items) (a : Float) where

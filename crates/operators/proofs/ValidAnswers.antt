@@ -25,12 +25,12 @@ use Rattle.terms.specs.Setting.{keyed, write, hasRoom, added, addAll}
 use Rattle.terms.specs.Chains.{timesTerms, conjugateTerms, convertTerms, scaledTerms}
 use Rattle.terms.proofs.KeyedLaws.{All, all-nil, all-cons, all-head, all-tail, all-of, all-each, each-cons, each-head, each-tail}
 use Rattle.terms.proofs.SettingLaws.{Alike, alike-by, different, write-length, keys-write, each-write, each-write-other, addAll-length, addAll-keys, each-addAll}
-use Rattle.operators.specs.Complexes.{complexTerms, complexProducts, heldBy, filled, validSet}
+use Rattle.operators.specs.Complexes.{complexTerms, complexProducts, heldBy, filled, goodCoefficient, validSet}
 use Rattle.operators.specs.Answers.{setTerm, addTerm, allInRange, collected, multiplySets, conjugateSet, convertSet, scaleSet}
 use Rattle.operators.specs.declared.term_set.Term.{Term}
 use Rattle.operators.specs.declared.term_set.TermSet.{TermSet}
 use Rattle.operators.proofs.GatherLaws.{scaledTerm}
-use Rattle.operators.proofs.ValidLaws.{goodCoefficient, good-coefficients, valid-parts, valid-by, valid-good, valid-products, valid-ranges, valid-keys, valid-held, all-good, coefficients-with-zeros, coefficients-without-zeros, filled-valid}
+use Rattle.operators.proofs.ValidLaws.{valid-coefficients, valid-parts, valid-by, valid-products, valid-ranges, valid-keys, valid-held, all-good, coefficients-with-zeros, coefficients-without-zeros, filled-valid}
 
 -- ---- answers: what the record of an accepted one has, and which one stands beside a refusal
 
@@ -140,7 +140,7 @@ write-valid zeros s k a v w r room =
     (write-length complexTerms k a l room (omega (arith, h .long, h .few)))
     (all-good zeros (write complexTerms k a l)
     (each-write complexTerms (λ t. valid (t .items)) k a l (valid-products zeros s v) w)
-    (each-write-other complexTerms (λ t. goodCoefficient zeros (t .coefficient)) k a l (good-coefficients zeros l (valid-good zeros s v))
+    (each-write-other complexTerms (λ t. goodCoefficient zeros (t .coefficient)) k a l (valid-coefficients zeros s v)
     (λ z. and-true r (other-allowed zeros (isZero a) z)))
     (keys-write complexTerms complex-alike k a l (valid-keys zeros s v)))
 

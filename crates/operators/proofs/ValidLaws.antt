@@ -3,15 +3,13 @@
 -- Assumes nothing.
 use Prim.Native.Nat.{ℕ, _+_, _≤_, _<_}
 use native.Mathlib.Omega.{arith}
-use mathlib.Core.Path.{_≡_, refl, sym, ap, _∙_}
+use mathlib.Core.Path.{_≡_, refl}
 use mathlib.Core.Bool.{Bool, true, false, not, _&&_, _||_}
 use mathlib.Core.List.{List, []}
 use lib.Dec.{leb, eqb}
 use lib.ListN.{length, drop, getD}
-use lib.Seq.{getD-take, length-take-le}
-use Rattle.letters.proofs.TestLaws.{and-true, and-left, and-right, and-false}
+use Rattle.letters.proofs.TestLaws.{and-true, and-left, and-right}
 use Rattle.complex.specs.Complex.{isZero, inRange, isPlusZero}
-use Rattle.complex.specs.declared.Complex.{Complex}
 use Rattle.complex.proofs.ZeroLaws.{plus-zero-only, plus-zero-passes}
 use Rattle.products.specs.Record.{valid, sameItems}
 use Rattle.products.specs.Answers.{emptyProduct}
@@ -19,12 +17,13 @@ use Rattle.products.proofs.SameLaws.{same-self, same-equal}
 use Rattle.terms.specs.Keyed.{firstAt, each}
 use Rattle.terms.specs.Setting.{mostTerms, keyed}
 use Rattle.terms.proofs.SettingLaws.{Held, different}
-use Rattle.operators.specs.Complexes.{complexTerms, blank, heldBy, filled, goodTerm, isBlank, validSet}
+use Rattle.operators.specs.Complexes.{complexTerms, blank, heldBy, filled, goodCoefficient, goodTerm, isBlank, validSet}
 use Rattle.operators.specs.declared.term_set.Term.{Term}
 use Rattle.operators.specs.declared.term_set.TermSet.{TermSet}
 use Rattle.operators.proofs.SetLaws.{own-held}
-use Rattle.terms.proofs.EachLaws.{getD-any, each-follows, each-both, not-again}
+use Rattle.terms.proofs.EachLaws.{each-follows, each-both}
 use Rattle.terms.proofs.PlacesLaws as places
+use Rattle.terms.proofs.GoodLaws as good
 
 -- ---- blanks
 
@@ -45,93 +44,22 @@ blank-only t e =
     let i = plus-zero-only (t .coefficient .im) (and-right re im parts) in
     λ j. record { items = p j; coefficient = record { re = r j; im = i j } }
 
--- ---- good terms
-
--- a coefficient that a valid set holds
-abbrev pub goodCoefficient : Bool → Complex → Bool
-goodCoefficient zeros a = inRange a && (zeros || not (isZero a))
-
--- the test of a term, the test of its coefficient taken together
-good-term-is : (zeros : Bool) (t : Term) (ts : List Term) → goodTerm zeros t ts ≡ (valid (t .items) && (goodCoefficient zeros (t .coefficient) && different complexTerms t ts))
-unfolding goodTerm
-good-term-is zeros t ts = regroup (valid (t .items)) (inRange (t .coefficient)) (zeros || not (isZero (t .coefficient))) (different complexTerms t ts)
-  where
-    regroup : (a b c d : Bool) → (a && (b && (c && d))) ≡ (a && ((b && c) && d))
-    regroup a true c d = refl
-    regroup a false c d = refl
-
--- from its three tests
-pub good-by : (zeros : Bool) (t : Term) (ts : List Term) → valid (t .items) ≡ true → goodCoefficient zeros (t .coefficient) ≡ true → different complexTerms t ts ≡ true → goodTerm zeros t ts ≡ true
-good-by zeros t ts v c k = good-term-is zeros t ts ∙ and-true v (and-true c k)
-
-module _ (zeros : Bool) (t : Term) (ts : List Term) (e : goodTerm zeros t ts ≡ true) where
-  three : (valid (t .items) && (goodCoefficient zeros (t .coefficient) && different complexTerms t ts)) ≡ true
-  three = sym (good-term-is zeros t ts) ∙ e
-
-  pub good-product : valid (t .items) ≡ true
-  good-product = and-left (valid (t .items)) (goodCoefficient zeros (t .coefficient) && different complexTerms t ts) three
-
-  last-two : (goodCoefficient zeros (t .coefficient) && different complexTerms t ts) ≡ true
-  last-two = and-right (valid (t .items)) (goodCoefficient zeros (t .coefficient) && different complexTerms t ts) three
-
-  pub good-coefficient : goodCoefficient zeros (t .coefficient) ≡ true
-  good-coefficient = and-left (goodCoefficient zeros (t .coefficient)) (different complexTerms t ts) last-two
-
-  pub good-in-range : inRange (t .coefficient) ≡ true
-  good-in-range = and-left (inRange (t .coefficient)) (zeros || not (isZero (t .coefficient))) good-coefficient
-
-  pub good-zeros : (zeros || not (isZero (t .coefficient))) ≡ true
-  good-zeros = and-right (inRange (t .coefficient)) (zeros || not (isZero (t .coefficient))) good-coefficient
-
-  pub good-key : different complexTerms t ts ≡ true
-  good-key = and-right (goodCoefficient zeros (t .coefficient)) (different complexTerms t ts) last-two
-
 -- ---- the term at a place, which code reads as `getD (s .terms) i d`
 
 module _ (zeros : Bool) (s : TermSet) (i : ℕ) (d : Term) (whole : length (s .terms) ≡ mostTerms) (few : s .count ≤ mostTerms) (h : i < s .count) where
-  held-long : length (heldBy s) ≡ s .count
-  held-long = length-take-le (s .count) (s .terms) (omega arith)
-
-  read-is : getD (heldBy s) i blank ≡ getD (s .terms) i d
-  read-is = getD-any (heldBy s) i blank d (omega (arith, held-long)) ∙ getD-take (s .count) (s .terms) i d h
-
-  place-is : goodTerm zeros (getD (heldBy s) i blank) (drop (i + 1) (heldBy s)) ≡ (valid (getD (s .terms) i d .items) && (goodCoefficient zeros (getD (s .terms) i d .coefficient) && different complexTerms (getD (s .terms) i d) (drop (i + 1) (heldBy s))))
-  place-is = ap (λ (t : Term). goodTerm zeros t (drop (i + 1) (heldBy s))) read-is ∙ good-term-is zeros (getD (s .terms) i d) (drop (i + 1) (heldBy s))
-
   -- its product is not valid
   pub bad-product : valid (getD (s .terms) i d .items) ≡ false → false ≡ goodTerm zeros (getD (heldBy s) i blank) (drop (i + 1) (heldBy s))
-  bad-product v = rw (place-is, v)
+  bad-product = good.bad-key complexTerms valid (goodCoefficient zeros) blank (s .count) (s .terms) i d whole few h
 
   -- its coefficient is none that a valid set holds
   pub bad-coefficient : goodCoefficient zeros (getD (s .terms) i d .coefficient) ≡ false → false ≡ goodTerm zeros (getD (heldBy s) i blank) (drop (i + 1) (heldBy s))
-  bad-coefficient c = sym (place-is ∙ rw c (and-false (valid (getD (s .terms) i d .items)) false refl))
+  bad-coefficient = good.bad-coefficient complexTerms valid (goodCoefficient zeros) blank (s .count) (s .terms) i d whole few h
 
   -- both are good: the search for its key past its place answers r
   pub by-key : valid (getD (s .terms) i d .items) ≡ true → goodCoefficient zeros (getD (s .terms) i d .coefficient) ≡ true
       → (r : ℕ) → r ≡ i + 1 + firstAt (keyed complexTerms (getD (s .terms) i d .items)) (drop (i + 1) (heldBy s))
       → eqb r (s .count) ≡ goodTerm zeros (getD (heldBy s) i blank) (drop (i + 1) (heldBy s))
-  by-key v c r e =
-      let once = not-again (keyed complexTerms (getD (s .terms) i d .items)) (heldBy s) i (s .count) held-long h in
-      ap (λ (k : ℕ). eqb k (s .count)) e ∙ once ∙ sym (place-is ∙ rw (v, c))
-
--- ---- a list of good terms: what each of them has
-
-module _ (zeros : Bool) (l : List Term) (e : each (goodTerm zeros) l ≡ true) where
-  pub good-products : each (λ t ts. valid (t .items)) l ≡ true
-  good-products = each-follows (goodTerm zeros) (λ t ts. valid (t .items)) (good-product zeros) l e
-
-  pub good-coefficients : each (λ t ts. goodCoefficient zeros (t .coefficient)) l ≡ true
-  good-coefficients = each-follows (goodTerm zeros) (λ t ts. goodCoefficient zeros (t .coefficient)) (good-coefficient zeros) l e
-
-  pub good-ranges : each (λ t ts. inRange (t .coefficient)) l ≡ true
-  good-ranges = each-follows (goodTerm zeros) (λ t ts. inRange (t .coefficient)) (good-in-range zeros) l e
-
-  pub good-keys : each (different complexTerms) l ≡ true
-  good-keys = each-follows (goodTerm zeros) (different complexTerms) (good-key zeros) l e
-
--- no zero is held where none is allowed
-pub good-nonzero : (l : List Term) → each (goodTerm false) l ≡ true → each (λ t ts. not (isZero (t .coefficient))) l ≡ true
-good-nonzero l e = each-follows (goodTerm false) (λ t ts. not (isZero (t .coefficient))) (good-zeros false) l e
+  by-key = good.by-key complexTerms valid (goodCoefficient zeros) blank (s .count) (s .terms) i d whole few h
 
 -- ---- valid sets
 
@@ -166,33 +94,28 @@ module _ (zeros : Bool) (s : TermSet) (e : validSet zeros s ≡ true) where
   valid-own = own-held s valid-held
 
   -- its terms are good, and so are their products, coefficients and keys
-  pub valid-good : each (goodTerm zeros) (heldBy s) ≡ true
+  valid-good : each (goodTerm zeros) (heldBy s) ≡ true
   valid-good = valid-parts zeros s e .good
 
   pub valid-products : each (λ t ts. valid (t .items)) (heldBy s) ≡ true
-  valid-products = good-products zeros (heldBy s) valid-good
+  valid-products = good.good-keys complexTerms valid (goodCoefficient zeros) (heldBy s) valid-good
+
+  pub valid-coefficients : each (λ t ts. goodCoefficient zeros (t .coefficient)) (heldBy s) ≡ true
+  valid-coefficients = good.good-coefficients complexTerms valid (goodCoefficient zeros) (heldBy s) valid-good
 
   pub valid-ranges : each (λ t ts. inRange (t .coefficient)) (heldBy s) ≡ true
-  valid-ranges = good-ranges zeros (heldBy s) valid-good
+  valid-ranges =
+      each-follows (λ t ts. goodCoefficient zeros (t .coefficient)) (λ t ts. inRange (t .coefficient)) (λ t ts. and-left (inRange (t .coefficient)) (zeros || not (isZero (t .coefficient)))) (heldBy s) valid-coefficients
 
   pub valid-keys : each (different complexTerms) (heldBy s) ≡ true
-  valid-keys = good-keys zeros (heldBy s) valid-good
-
--- it holds no zero where none is allowed
-pub valid-nonzero : (s : TermSet) → validSet false s ≡ true → each (λ t ts. not (isZero (t .coefficient))) (heldBy s) ≡ true
-valid-nonzero s e = good-nonzero (heldBy s) (valid-good false s e)
+  valid-keys = good.good-differents complexTerms valid (goodCoefficient zeros) (heldBy s) valid-good
 
 -- ---- good terms make a valid set
 
 -- from tests of each term alone, and of keys
 pub all-good : (zeros : Bool) (l : List Term) → each (λ t ts. valid (t .items)) l ≡ true → each (λ t ts. goodCoefficient zeros (t .coefficient)) l ≡ true → each (different complexTerms) l ≡ true
     → each (goodTerm zeros) l ≡ true
-all-good zeros l v c k =
-    each-both (λ t ts. valid (t .items)) (λ t ts. goodCoefficient zeros (t .coefficient) && different complexTerms t ts) (goodTerm zeros)
-    (λ t ts a b. good-by zeros t ts a (and-left (goodCoefficient zeros (t .coefficient)) (different complexTerms t ts) b) (and-right (goodCoefficient zeros (t .coefficient)) (different complexTerms t ts) b))
-    l
-    v
-    (each-both (λ t ts. goodCoefficient zeros (t .coefficient)) (different complexTerms) (λ t ts. goodCoefficient zeros (t .coefficient) && different complexTerms t ts) (λ t ts a b. and-true a b) l c k)
+all-good zeros = good.all-good complexTerms valid (goodCoefficient zeros)
 
 -- coefficients in range, where zeros are allowed; in range and none of them zero, where they are not
 pub coefficients-with-zeros : (l : List Term) → each (λ t ts. inRange (t .coefficient)) l ≡ true → each (λ t ts. goodCoefficient true (t .coefficient)) l ≡ true

@@ -1,18 +1,17 @@
 -- Sets of terms with complex coefficients: the terms that a record holds, the record that holds given terms, and which records are valid.
 -- Document 01, `an array of 64 term records, each a product and its coefficient, with a count`, and number 0.
-use Prim.Native.Nat.{ℕ}
-use mathlib.Core.Bool.{Bool, true, not, _&&_, _||_}
-use mathlib.Core.List.{List, []}
+use mathlib.Core.Bool.{Bool, not, _&&_, _||_}
+use mathlib.Core.List.{List}
 use lib.ListN.{length, take}
 use Rattle.complex.specs.Complex.{plusZero, sumOf, productOf, conjugateOf, unitOfI, isZero, inRange, isPlusZero}
 use Rattle.complex.specs.declared.Complex.{Complex}
 use Rattle.products.specs.Record.{valid, sameItems}
 use Rattle.products.specs.Answers.{emptyProduct}
 use Rattle.products.specs.declared.items.Items.{Items}
-use Rattle.terms.specs.Keyed.{has, padded}
+use Rattle.terms.specs.Keyed.{padded}
 use Rattle.terms.specs.Kind.{Terms, Products}
-use Rattle.terms.specs.Setting.{mostTerms, keyed}
-use Rattle.terms.specs.Places.{validPlaces}
+use Rattle.terms.specs.Setting.{mostTerms}
+use Rattle.terms.specs.Places as places
 use Rattle.operators.specs.declared.term_set.Term.{Term}
 use Rattle.operators.specs.declared.term_set.TermSet.{TermSet}
 
@@ -50,10 +49,13 @@ heldBy s = take (s .count) (s .terms)
 unfoldable pub filled : List Term → TermSet
 filled l = record { count = length l; terms = padded mostTerms blank l }
 
--- a held term: a valid product, a coefficient in range that is not zero (where zeros are not allowed), and no later term with its key
-unfoldable pub goodTerm : Bool → Term → List Term → Bool
-goodTerm zeros t ts =
-    valid (t .items) && (inRange (t .coefficient) && ((zeros || not (isZero (t .coefficient))) && not (has (keyed complexTerms (t .items)) ts)))
+-- a coefficient of a held term: in range, and not zero where zeros are not allowed
+abbrev pub goodCoefficient : Bool → Complex → Bool
+goodCoefficient zeros a = inRange a && (zeros || not (isZero a))
+
+-- a held term: a valid product, a good coefficient, and no later term with its key
+abbrev pub goodTerm : Bool → Term → List Term → Bool
+goodTerm zeros = places.goodTerm complexTerms valid (goodCoefficient zeros)
 
 -- a term of zeros, +0 in its floats
 unfoldable pub isBlank : Term → Bool
@@ -61,4 +63,4 @@ isBlank t = sameItems (t .items) emptyProduct && (isPlusZero (t .coefficient .re
 
 -- what number 0 lets pass; only a `PauliOperator` may hold zeros
 unfoldable pub validSet : Bool → TermSet → Bool
-validSet zeros s = validPlaces (goodTerm zeros) isBlank (s .count) (s .terms)
+validSet zeros s = places.validPlaces (goodTerm zeros) isBlank (s .count) (s .terms)

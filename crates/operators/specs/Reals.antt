@@ -9,10 +9,10 @@ use Rattle.complex.specs.declared.Complex.{Complex}
 use Rattle.products.specs.Record.{valid, sameItems}
 use Rattle.products.specs.Answers.{emptyProduct}
 use Rattle.products.specs.declared.items.Items.{Items}
-use Rattle.terms.specs.Keyed.{has, padded}
+use Rattle.terms.specs.Keyed.{padded}
 use Rattle.terms.specs.Kind.{Terms}
-use Rattle.terms.specs.Setting.{mostTerms, keyed}
-use Rattle.terms.specs.Places.{validPlaces}
+use Rattle.terms.specs.Setting.{mostTerms}
+use Rattle.terms.specs.Places as places
 use Rattle.operators.specs.Complexes.{termOf}
 use Rattle.operators.specs.declared.term_set.Term.{Term}
 use Rattle.operators.specs.declared.pauli_hamiltonian.RealTerm.{RealTerm}
@@ -53,9 +53,13 @@ heldBy s = take (s .count) (s .terms)
 unfoldable pub filled : List RealTerm → PauliHamiltonian
 filled l = record { count = length l; terms = padded mostTerms blank l }
 
--- a held term: a valid product, a coefficient in range that is not zero, and no later term with its key
-unfoldable pub goodTerm : RealTerm → List RealTerm → Bool
-goodTerm t ts = valid (t .items) && ((partInRange (t .coefficient) && not (eq (t .coefficient) plusZero)) && not (has (keyed realTerms (t .items)) ts))
+-- a coefficient of a held term: in range, and not zero
+abbrev pub goodCoefficient : Float → Bool
+goodCoefficient x = partInRange x && not (eq x plusZero)
+
+-- a held term: a valid product, a good coefficient, and no later term with its key
+abbrev pub goodTerm : RealTerm → List RealTerm → Bool
+goodTerm = places.goodTerm realTerms valid goodCoefficient
 
 -- a term of zeros, +0 in its float
 unfoldable pub isBlank : RealTerm → Bool
@@ -63,4 +67,4 @@ isBlank t = sameItems (t .items) emptyProduct && isPlusZero (t .coefficient)
 
 -- what number 0 lets pass
 unfoldable pub validSet : PauliHamiltonian → Bool
-validSet s = validPlaces goodTerm isBlank (s .count) (s .terms)
+validSet s = places.validPlaces goodTerm isBlank (s .count) (s .terms)

@@ -6,5 +6,6 @@ pub mod PlaceLaws
 pub mod EachLaws
 pub mod FilledLaws
 pub mod PlacesLaws
+pub mod GoodLaws
 pub mod WriteLaws
 pub mod RunLaws
