@@ -1,10 +1,12 @@
 -- Worked cases of the definitions, each computed. Assumes nothing.
 use mathlib.Core.Path.{_≡_, refl}
 use mathlib.Core.Bool.{true, false, not, _&&_}
+use mathlib.Core.Option.{none, some}
 use lib.IntN.{pos, negsuc}
 use lib.Ieee.{Float, nan, inf, fin, binary64, ofBits, add, sub, mul, neg, eq, lt, le}
 use Rattle.complex.specs.declared.Complex.{Complex}
 use Rattle.complex.specs.Complex.{atMost, partInRange, inRange, isZero, productOf, sumOf, conjugateOf, plusZero}
+use Rattle.complex.specs.Wholes.{wholeFraction, partsIn, wholeOf, isWhole, partsOf, bothWhole}
 
 -- 2^300
 abbrev limit : Float
@@ -88,3 +90,62 @@ nan-case = refl
 part-out-case : inRange (record { re = plusZero; im = fin false 1 (pos 301) }) ≡ false
 unfolding inRange partInRange atMost ofBits
 part-out-case = refl
+
+-- ---- whole parts
+
+-- document 01's example for number 11
+half-refused : wholeOf (fin false 1 (negsuc 0)) ≡ none
+unfolding wholeOf partsIn wholeFraction
+half-refused = refl
+
+minus-three-whole : wholeOf (fin true 3 (pos 0)) ≡ some (negsuc 2)
+unfolding wholeOf partsIn wholeFraction
+minus-three-whole = refl
+
+-- 2^40 and -2^40
+most-whole : wholeOf (fin false 1 (pos 40)) ≡ some (pos 1099511627776)
+unfolding wholeOf partsIn wholeFraction
+most-whole = refl
+
+minus-most-whole : wholeOf (fin true 1 (pos 40)) ≡ some (negsuc 1099511627775)
+unfolding wholeOf partsIn wholeFraction
+minus-most-whole = refl
+
+-- 2^40 + 1, 2^41 and -2^41
+next-refused : wholeOf (fin false 1099511627777 (pos 0)) ≡ none
+unfolding wholeOf partsIn wholeFraction
+next-refused = refl
+
+twice-refused : wholeOf (fin false 1 (pos 41)) ≡ none
+unfolding wholeOf partsIn wholeFraction
+twice-refused = refl
+
+minus-twice-refused : wholeOf (fin true 1 (pos 41)) ≡ none
+unfolding wholeOf partsIn wholeFraction
+minus-twice-refused = refl
+
+-- -0 is the whole number 0
+minus-zero-whole : wholeOf (fin true 0 (pos 0)) ≡ some (pos 0)
+unfolding wholeOf partsIn wholeFraction
+minus-zero-whole = refl
+
+nan-refused : wholeOf nan ≡ none
+unfolding wholeOf partsIn
+nan-refused = refl
+
+infinite-refused : wholeOf (inf false) ≡ none
+unfolding wholeOf partsIn
+infinite-refused = refl
+
+minus-infinite-refused : wholeOf (inf true) ≡ none
+unfolding wholeOf partsIn
+minus-infinite-refused = refl
+
+-- 2 + i/2: both parts count
+half-part-refused : bothWhole (record { re = fin false 1 (pos 1); im = fin false 1 (negsuc 0) }) ≡ false
+unfolding bothWhole isWhole wholeOf partsIn wholeFraction
+half-part-refused = refl
+
+no-parts : partsOf nan ≡ pos 0
+unfolding partsOf wholeOf partsIn
+no-parts = refl

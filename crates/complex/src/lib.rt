@@ -2,6 +2,8 @@
 ghost use mathlib.Core.Path.{_≡_};
 ghost use Rattle.complex.specs.Complex.{sumOf, productOf, conjugateOf, isZero, partInRange, inRange, isPlusZero, unitOfI};
 
+pub mod whole;
+
 pub struct Complex {
     pub re: f64,
     pub im: f64,
