@@ -80,7 +80,7 @@ site-orthogonal kind c e hc he =
 tensor-sum : (n : ℕ) (W : ℕ → ℕ → ℕ → G) → Σ (2 ^ n) (λ r. Σ (2 ^ n) (λ c. Π n (λ s. W s (bit s r) (bit s c)))) ≡ Π n (λ s. siteSum (W s))
 tensor-sum n W = Σ-cong (2 ^ n) (λ r. line-sum n (λ s. W s (bit s r))) ∙ line-sum n (λ s x. W s x 0 ⊕ W s x 1)
 
-cond-⊗ : (a b : Bool) → cond a 𝟙 𝟘 ⊗ cond b 𝟙 𝟘 ≡ cond (a && b) 𝟙 𝟘
+pub cond-⊗ : (a b : Bool) → cond a 𝟙 𝟘 ⊗ cond b 𝟙 𝟘 ≡ cond (a && b) 𝟙 𝟘
 cond-⊗ true b = 𝟙-⊗ (cond b 𝟙 𝟘)
 cond-⊗ false b = 𝟘-⊗ (cond b 𝟙 𝟘)
 
