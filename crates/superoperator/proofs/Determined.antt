@@ -3,7 +3,7 @@
 -- the pairs apart. Hamiltonian: with the noise's parts gone, the commutators are probed with a product and the identity.
 -- Assumes nothing.
 use mathlib.Core.Path.{_≡_, refl, sym, _∙_, ap, ap₂}
-use mathlib.Core.Bool.{Bool, true, false, _&&_, cond}
+use mathlib.Core.Bool.{Bool, true, cond}
 use mathlib.Core.List.{List}
 use mathlib.Core.Logic.{_↔_}
 use Prim.Native.Nat.{ℕ, _^_, _<_}
@@ -13,12 +13,12 @@ use Rattle.letters.specs.Gauss.{G, 𝟘, 𝟙, i⁺, i⁻, _⊕_, _⊗_}
 use Rattle.letters.specs.Matrices.{pauli, decoherence, lettersOf, matrix}
 use Rattle.letters.specs.declared.Kind.the-variants.{Pauli, Decoherence}
 use Rattle.letters.proofs.TestLaws.{and-true, and-left, and-right, every-intro}
-use Rattle.letters.proofs.GaussLaws.{ring, ⊕-comm, ⊕-cancel, 𝟘-⊕, 𝟙-⊗, 𝟘-⊗, ⊗-𝟘, ⊗-assoc, ⊗-left-comm, ⊗-comm, ⊗-cancel, i⁻⊗i⁺}
+use Rattle.letters.proofs.GaussLaws.{ring, ⊕-comm, ⊕-cancel, 𝟘-⊕, ⊗-𝟘, ⊗-assoc, ⊗-left-comm, ⊗-comm, ⊗-cancel, i⁻⊗i⁺}
 use Rattle.products.specs.Record.{letterAt, sameItems}
 use Rattle.products.specs.declared.items.Items.{Items}
 use Rattle.products.proofs.SameLaws.{same-self, same-equal}
 use Rattle.terms.specs.Keyed.{each}
-use Rattle.terms.specs.Gaussian.{summed, weighted}
+use Rattle.terms.specs.Gaussian.{weighted}
 use Rattle.terms.proofs.KeyedLaws.{all-each}
 use Rattle.terms.proofs.SummedLaws.{summed-on, summed-same, summed-zero, summed-scale}
 use Rattle.rows.specs.Equation.{δ, 𝟚, commutator, dissipator}
@@ -161,7 +161,7 @@ module _ (n : ℕ) (p : Items) (h : onSpins n p ≡ true) where
 
 -- ---- two systems
 
-module _ (n : ℕ) (h h′ : Hamiltonian) (w w′ : Noise) (s : Sound n h w) (s′ : Sound n h′ w′) where
+module _ (n : ℕ) (h : Hamiltonian) (w : Noise) (h′ : Hamiltonian) (w′ : Noise) (s : Sound n h w) (s′ : Sound n h′ w′) where
   -- equal shares of noise make equal sums, whatever the value of a pair
   noise-sums : ((p : Items × Items) → share samePair p w ≡ share samePair p w′) → (φ : Items × Items → G) → weighted φ w ≡ weighted φ w′
   noise-sums = same-sums samePair pair-self pair-equal w w′ (s .noise .different) (s′ .noise .different)
@@ -203,11 +203,10 @@ module _ (n : ℕ) (h h′ : Hamiltonian) (w w′ : Noise) (s : Sound n h w) (s�
 
   -- THE THEOREM: two systems have the same entries exactly where they hold the same terms
   pub entries-determine : SameEntries n h w h′ w′ ↔ (SameTerms sameItems h h′ × SameTerms samePair w w′)
-  entries-determine =
-      (
-        λ e. (
-          terms-from-shares sameItems same-self same-equal (onSpins n) h h′ (s .hamiltonian) (s′ .hamiltonian) (hamiltonian-shares e),
-          terms-from-shares samePair pair-self pair-equal (pairOnSpins n) w w′ (s .noise) (s′ .noise) (noise-shares e),
-        ),
-        λ t k l a b hk hl ha hb. terms-determine (t .0) (t .1) k l a b,
-      )
+  entries-determine = (
+    λ e. (
+      terms-from-shares sameItems same-self same-equal (onSpins n) h h′ (s .hamiltonian) (s′ .hamiltonian) (hamiltonian-shares e),
+      terms-from-shares samePair pair-self pair-equal (pairOnSpins n) w w′ (s .noise) (s′ .noise) (noise-shares e),
+    ),
+    λ t k l a b hk hl ha hb. terms-determine (t .0) (t .1) k l a b,
+  )

@@ -4,3 +4,4 @@ pub mod ShareLaws
 pub mod ProductLaws
 pub mod ProbeLaws
 pub mod Determined
+pub mod KnownRows

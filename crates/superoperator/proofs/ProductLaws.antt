@@ -1,7 +1,7 @@
 -- Products on spins below n that are not empty, of either kind: their matrices are orthogonal exactly where the records differ, and have no trace.
 -- Assumes nothing.
-use mathlib.Core.Path.{_≡_, refl, sym, _∙_, ap, subst}
-use mathlib.Core.Bool.{Bool, true, false, not, _&&_, cond}
+use mathlib.Core.Path.{_≡_, sym, _∙_, ap, subst}
+use mathlib.Core.Bool.{true, false, cond}
 use Prim.Native.Nat.{ℕ, _≤_, _<_}
 use native.Mathlib.Decide.{decLt}
 use native.Mathlib.Omega.{arith}
@@ -32,14 +32,9 @@ pub record OnSpins (n : ℕ) (p : Items) : Type 0 where
 pub on-spins : (n : ℕ) (p : Items) → onSpins n p ≡ true → OnSpins n p
 unfolding onSpins
 on-spins n p e =
-    let t = leb (reach p) n && not (eqb (p .count) 0) in
-    let r : t ≡ true = and-right (valid p) t e in
-    let ne = eqb-false (p .count) 0 (not-true (eqb (p .count) 0) (and-right (leb (reach p) n) (not (eqb (p .count) 0)) r)) in
-    record {
-      valid-there = and-left (valid p) t e;
-      reach-most = leb-true (reach p) n (and-left (leb (reach p) n) (not (eqb (p .count) 0)) r);
-      some = omega arith;
-    }
+    let r = and-right (valid p) _ e in
+    let ne = eqb-false (p .count) _ (not-true _ (and-right (leb (reach p) n) _ r)) in
+    record { valid-there = and-left (valid p) _ e; reach-most = leb-true (reach p) n (and-left (leb (reach p) n) _ r); some = omega arith }
 
 module _ (n : ℕ) (p : Items) (h : onSpins n p ≡ true) where
   -- its letters are codes
