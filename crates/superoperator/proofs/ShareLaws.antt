@@ -16,6 +16,7 @@ use Rattle.terms.proofs.Totals.{weighted-write}
 use Rattle.superoperator.specs.Systems.{SameTerms, SoundTerms}
 
 module _ {K : Type 0} (same : K → K → Bool) where
+  -- the sum of the coefficients under k
   abbrev pub share : K → List (K × G) → G
   share k l = weighted (λ j. cond (same j k) 𝟙 𝟘) l
 
