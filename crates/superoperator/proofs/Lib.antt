@@ -1,0 +1,7 @@
+pub mod InnerLaws
+pub mod Orthogonality
+pub mod ShareLaws
+pub mod ProductLaws
+pub mod ProbeLaws
+pub mod Determined
+pub mod KnownRows
