@@ -2,13 +2,14 @@
 -- chain that the definition adds.
 -- Assumes nothing.
 use mathlib.Core.Path.{_≡_, refl, sym, ap, _∙_}
-use mathlib.Core.Bool.{Bool, true, false, not, _&&_, _||_}
+use mathlib.Core.Bool.{true, false}
 use mathlib.Core.List.{List, [], _∷_}
 use Rattle.refusal.specs.Refusals.{gives}
 use Rattle.complex.specs.Complex.{productOf, conjugateOf}
 use Rattle.complex.specs.declared.Complex.{Complex}
 use Rattle.terms.specs.Keyed.{concatMap}
 use Rattle.terms.specs.Setting.{addAll}
+use Rattle.terms.specs.Entries as entries
 use Rattle.terms.specs.Chains.{pairTerms as fullTerms}
 use Rattle.terms.specs.Runs.{orFull, addOn}
 use Rattle.terms.proofs.RunLaws.{run-same, addOn-nil, addOn-gives, run-addOn}
@@ -20,13 +21,9 @@ use Rattle.noise.specs.Chained.{State, shown, Stands, fullPair, fullRow,
 use Rattle.noise.specs.declared.noise_set.NoiseTerm.{NoiseTerm}
 use Rattle.noise.specs.declared.noise_set.NoiseSet.{NoiseSet}
 use Rattle.noise.specs.declared.noise_set.NoiseSetAnswer.{NoiseSetAnswer}
-use Rattle.noise.proofs.ChainLaws.{collected-is}
+use Rattle.noise.proofs.ValidLaws.{neither}
 
 -- ---- one pair
-
-neither : (a b : Bool) → (not a && not b) ≡ not (a || b)
-neither true b = refl
-neither false b = refl
 
 module _ (v : Complex) (x y : Term) where
   -- it is passed over
@@ -75,6 +72,5 @@ rows-are v l r m =
 
 -- and what they end in is what the definition says
 pub rows-end : (s : NoiseSet) (v : Complex) (l r : List Term) → ended s (fullRows v l r (gives (heldBy s))) ≡ collected s (addAll pairTerms (fullTerms complexTerms pairTerms complexProducts isEmpty v l r) (heldBy s))
-rows-end s v l r =
-    ap (λ (o : State). ended s o) (rows-are v l r (heldBy s))
-    ∙ collected-is s (addAll pairTerms (fullTerms complexTerms pairTerms complexProducts isEmpty v l r) (heldBy s))
+unfolding entries.collected
+rows-end s v l r = ap (ended s) (rows-are v l r (heldBy s))

@@ -1,6 +1,5 @@
 pub mod SetLaws
 pub mod ValidLaws
-pub mod ChainLaws
 pub mod FullLaws
 pub mod RemapLaws
 pub mod NoiseTheorems

@@ -2,7 +2,7 @@
 -- dissipator, say), the sum over the set's terms of coefficient times value.
 -- Assumes nothing.
 use mathlib.Core.Path.{_≡_, ap, ap₂, _∙_}
-use mathlib.Core.Bool.{Bool, true, not, _&&_, cond}
+use mathlib.Core.Bool.{true, not, _&&_, cond}
 use mathlib.Core.List.{List}
 use mathlib.Core.Option.{some}
 use Rattle.letters.specs.Gauss.{G, 𝟘, _⊕_, _⊗_, conj}

@@ -14,14 +14,15 @@ use Rattle.products.specs.declared.items.ItemsAnswer.{ItemsAnswer}
 use Rattle.terms.specs.Setting.{write, hasRoom, added}
 use Rattle.terms.specs.Runs.{run, addOn}
 use Rattle.terms.proofs.KeyedLaws.{by-test}
+use Rattle.terms.proofs.ChainLaws.{stands-done, stands-stays, refused-stands}
 use Rattle.terms.proofs.RunLaws.{run-nil, run-cons, run-keeps, addOn-room, addOn-full}
 use Rattle.noise.specs.Pairs.{Key, pairTerms, pairOf, heldBy, filled}
-use Rattle.noise.specs.Answers.{andThen, told, ended, remapAll}
+use Rattle.noise.specs.Answers.{andThen, ended, remapAll}
 use Rattle.noise.specs.Chained.{State, shown, Stands, movedOn, remapOne, remapRun}
 use Rattle.noise.specs.declared.noise_set.NoiseTerm.{NoiseTerm}
 use Rattle.noise.specs.declared.noise_set.NoiseSet.{NoiseSet}
 use Rattle.noise.specs.declared.noise_set.NoiseSetAnswer.{NoiseSetAnswer}
-use Rattle.noise.proofs.ChainLaws.{stands-done, stands-refused, refused-stands}
+use Rattle.noise.proofs.SetLaws.{noiseSets}
 
 -- ---- two moved products
 
@@ -39,15 +40,12 @@ module _ (c : NoiseSetAnswer) (left right : ItemsAnswer) (a : Complex) (o : Stat
   -- a refusal that came before stays
   pub moved-stays : (why : Refusal) → c .outcome ≡ Outcome.Refused why → Stands (record { outcome = Outcome.Refused why; set = c .set }) (movedOn (toldItems left) (toldItems right) a o)
   moved-stays why e =
-      let f = stands-refused c why o h e in
-      let g : movedOn (toldItems left) (toldItems right) a o ≡ o =
-      ap (movedOn (toldItems left) (toldItems right) a) f ∙ moved-refuses (toldItems left) (toldItems right) a (number why) (siteOf why) ∙ sym f in
-      ap told {x = record { outcome = Outcome.Refused why; set = c .set }} {y = c} (λ j. record { outcome = sym e j; set = c .set }) ∙ h ∙ ap shown (sym g)
+      stands-stays noiseSets (c .outcome) (c .set) (movedOn (toldItems left) (toldItems right) a) why (moved-refuses (toldItems left) (toldItems right) a (number why) (siteOf why)) o h e
 
   module _ (e : c .outcome ≡ Outcome.Done) where
     parts : movedOn (toldItems left) (toldItems right) a o ≡ andThen (said (left .outcome)) (andThen (said (right .outcome)) (addOn pairTerms (pairOf (left .items, right .items) a ∷ []) o))
     parts =
-        let f = stands-done c o h e in
+        let f = stands-done noiseSets (c .outcome) (c .set) o h e in
         ap (movedOn (toldItems left) (toldItems right) a) f
         ∙ moved-gives (toldItems left) (toldItems right) a (heldBy (c .set))
         ∙ ap (λ (p : State). andThen (said (left .outcome)) (andThen (said (right .outcome)) (addOn pairTerms (pairOf (left .items, right .items) a ∷ []) p))) (sym f)
@@ -55,12 +53,12 @@ module _ (c : NoiseSetAnswer) (left right : ItemsAnswer) (a : Complex) (o : Stat
     -- the left product is refused
     pub moved-left : (why : Refusal) (s : NoiseSet) → left .outcome ≡ Outcome.Refused why → s ≡ filled []
         → Stands (record { outcome = Outcome.Refused why; set = s }) (movedOn (toldItems left) (toldItems right) a o)
-    moved-left why s f g = refused-stands why s g ∙ ap shown (sym (parts ∙ rw f))
+    moved-left why s f g = refused-stands noiseSets why s g ∙ ap shown (sym (parts ∙ rw f))
 
     -- the right one is
     pub moved-right : (why : Refusal) (s : NoiseSet) → left .outcome ≡ Outcome.Done → right .outcome ≡ Outcome.Refused why → s ≡ filled []
         → Stands (record { outcome = Outcome.Refused why; set = s }) (movedOn (toldItems left) (toldItems right) a o)
-    moved-right why s f g k = refused-stands why s k ∙ ap shown (sym (parts ∙ rw (f, g)))
+    moved-right why s f g k = refused-stands noiseSets why s k ∙ ap shown (sym (parts ∙ rw (f, g)))
 
     -- neither is
     pub moved-both : (r : NoiseSetAnswer) → left .outcome ≡ Outcome.Done → right .outcome ≡ Outcome.Done

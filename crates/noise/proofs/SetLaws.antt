@@ -1,46 +1,31 @@
--- What `filled` and `heldBy` mean for the code: a set that holds its own terms has blanks past its count.
--- The laws of any kind of set, said of this one.
+-- Noise sets as a kind of set, for the laws over any kind.
 -- Assumes nothing.
-use Prim.Native.Nat.{ℕ}
 use mathlib.Core.Path.{_≡_, refl}
 use mathlib.Core.List.{List}
 use lib.ListN.{length}
 use Rattle.terms.specs.Keyed.{padded}
 use Rattle.terms.specs.Setting.{mostTerms}
-use Rattle.terms.proofs.SettingLaws.{Held}
 use Rattle.terms.proofs.FilledLaws.{Sets}
-use Rattle.terms.proofs.FilledLaws as laws
-use Rattle.noise.specs.Pairs.{blank, heldBy, filled}
+use Rattle.noise.specs.Pairs.{blank, filled}
 use Rattle.noise.specs.declared.noise_set.NoiseTerm.{NoiseTerm}
 use Rattle.noise.specs.declared.noise_set.NoiseSet.{NoiseSet}
 
--- the set of a count and places
-abbrev pub setOf : ℕ → List NoiseTerm → NoiseSet
-setOf n t = record { count = n; terms = t }
-
 -- the set that holds given terms, by its count and its places
-pub filled-is : (l : List NoiseTerm) → filled l ≡ setOf (length l) (padded mostTerms blank l)
+pub filled-is : (l : List NoiseTerm) → filled l ≡ record { count = length l; terms = padded mostTerms blank l }
 unfolding filled
 filled-is l = refl
 
--- this kind of set, for the laws over any kind
+-- this kind of set
 abbrev pub noiseSets : Sets NoiseTerm NoiseSet
-noiseSets = record { blank = blank; count = λ s. s .count; places = λ s. s .terms; make = setOf; filled = filled; made = λ s. refl; made-count = λ n t. refl; made-places = λ n t. refl; fills = filled-is }
-
--- a set by its count and its places
-pub filled-by : (s : NoiseSet) (l : List NoiseTerm) → s .count ≡ length l → s .terms ≡ padded mostTerms blank l → s ≡ filled l
-filled-by = laws.filled-by noiseSets
-
--- to hold one's own terms is to have blanks past the count
-pub held-own : (s : NoiseSet) → length (s .terms) ≡ mostTerms → s ≡ filled (heldBy s) → Held blank (s .count) (s .terms)
-held-own = laws.held-own noiseSets
-
-pub own-held : (s : NoiseSet) → Held blank (s .count) (s .terms) → s ≡ filled (heldBy s)
-own-held = laws.own-held noiseSets
-
--- the terms of a filled set, and that it holds its own
-pub held-filled : (l : List NoiseTerm) → heldBy (filled l) ≡ l
-held-filled = laws.held-filled noiseSets
-
-pub own-from : (s : NoiseSet) (l : List NoiseTerm) → s ≡ filled l → s ≡ filled (heldBy s)
-own-from = laws.own-from noiseSets
+noiseSets =
+    record {
+      blank = blank;
+      count = λ s. s .count;
+      places = λ s. s .terms;
+      make = λ n t. record { count = n; terms = t };
+      filled = filled;
+      made = λ s. refl;
+      made-count = λ n t. refl;
+      made-places = λ n t. refl;
+      fills = filled-is;
+    }

@@ -2,16 +2,17 @@
 -- what is held at the end. Document 01: pauli_noise_operator.rs and `Numbers of the no`.
 use Prim.Native.Nat.{ℕ}
 use mathlib.Core.Bool.{Bool, false, not, _&&_, _||_, cond}
-use mathlib.Core.List.{List, [], _∷_, map}
-use mathlib.Core.Option.{Option, none, some}
+use mathlib.Core.List.{List, [], _∷_}
+use mathlib.Core.Option.{Option}
 use lib.Dec.{eqb}
-use Rattle.refusal.specs.Refusals.{Said, gives, refuses, done, said}
+use Rattle.refusal.specs.Refusals.{Said, gives, refuses, said}
 use Rattle.complex.specs.Complex.{inRange}
 use Rattle.complex.specs.declared.Complex.{Complex}
 use Rattle.products.specs.Record.{valid}
 use Rattle.products.specs.Answers.{remapAnswer}
-use Rattle.terms.specs.Keyed.{held, each}
-use Rattle.terms.specs.Setting.{keyed, coefficientAt, write, hasRoom, added, addAll}
+use Rattle.terms.specs.Setting.{coefficientAt, write, hasRoom, added, addAll}
+use Rattle.terms.specs.Entries.{setIn, addIn}
+use Rattle.terms.specs.Entries as entries
 use Rattle.terms.specs.Chains.{pairTerms as fullTerms}
 use Rattle.operators.specs.Complexes.{complexTerms, complexProducts}
 use Rattle.operators.specs.Complexes as operators
@@ -47,32 +48,29 @@ setPair s k a =
     cond (not (validSet s)) (refuses 0 [], s)
     (cond (not (validKey k)) (refuses 0 [], s)
     (cond (emptySide k) (refuses 4 [], s)
-    (cond (not (inRange a)) (refuses 5 [], s)
-    (cond (not (hasRoom pairTerms k a (heldBy s))) (refuses 6 [], s)
-    (gives (map (λ t. t .coefficient) (held (keyed pairTerms k) (heldBy s))), filled (write pairTerms k a (heldBy s)))))))
+    (setIn pairTerms inRange filled (λ t. t .coefficient) s (heldBy s) k a)))
 
--- the sum is judged as it will be held
+-- the sum of the coefficient that was there and the new one
 unfoldable pub addPair : NoiseSet → Key → Complex → Said Unit × NoiseSet
 addPair s k a =
-    let b = added pairTerms k a (heldBy s) in
     cond (not (validSet s)) (refuses 0 [], s)
     (cond (not (validKey k)) (refuses 0 [], s)
     (cond (emptySide k) (refuses 4 [], s)
-    (cond (not (inRange a)) (refuses 5 [], s)
-    (cond (not (hasRoom pairTerms k b (heldBy s))) (refuses 6 [], s)
-    (cond (not (inRange b)) (refuses 5 [], s)
-    (done, filled (write pairTerms k b (heldBy s))))))))
+    (addIn pairTerms inRange filled s (heldBy s) k a)))
 
 -- ---- chains
 
 -- every coefficient is in range
-unfoldable pub allInRange : List NoiseTerm → Bool
-allInRange l = each (λ t ts. inRange (t .coefficient)) l
+abbrev pub allInRange : List NoiseTerm → Bool
+allInRange = entries.allInRange pairTerms inRange
 
--- terms added one after the other; s stands beside a refusal
-unfoldable pub collected : NoiseSet → Option (List NoiseTerm) → Said Unit × NoiseSet
-collected s none = (refuses 6 [], s)
-collected s (some l) = cond (not (allInRange l)) (refuses 5 [], s) (done, filled l)
+-- what a chain ends in, judged by 5; s stands beside a refusal
+abbrev pub ended : NoiseSet → Said (List NoiseTerm) → Said Unit × NoiseSet
+ended = entries.ended pairTerms inRange filled
+
+-- terms added one after the other
+abbrev pub collected : NoiseSet → Option (List NoiseTerm) → Said Unit × NoiseSet
+collected = entries.collected pairTerms inRange filled
 
 -- 4: "operator without terms"; then 5 for the value, also where every product is empty
 unfoldable pub addFullOperators : NoiseSet → TermSet → TermSet → Complex → Said Unit × NoiseSet
@@ -88,11 +86,6 @@ addFullOperators s l r a =
 abbrev pub andThen : {A B : Type 0} → Said A → Said B → Said B
 andThen (gives x) rest = rest
 andThen (refuses k l) rest = refuses k l
-
--- what a chain with refusals of its own ends in, judged by 5
-abbrev pub ended : NoiseSet → Said (List NoiseTerm) → Said Unit × NoiseSet
-ended s (gives l) = cond (not (allInRange l)) (refuses 5 [], s) (done, filled l)
-ended s (refuses k l) = (refuses k l, s)
 
 -- both products moved, term after term, left before right, and added; the first product refused refuses the call
 unfoldable pub remapAll : (ℕ → ℕ) → List NoiseTerm → List NoiseTerm → Said (List NoiseTerm)

@@ -3,12 +3,13 @@ use Prim.Native.Nat.{ℕ}
 use mathlib.Core.Path.{_≡_}
 use mathlib.Core.Bool.{not, _&&_, cond}
 use mathlib.Core.List.{List, [], _∷_}
-use Rattle.refusal.specs.Refusals.{Said, gives, refuses, done}
+use Rattle.refusal.specs.Refusals.{Said, gives, refuses}
 use Rattle.complex.specs.Complex.{productOf, conjugateOf}
 use Rattle.complex.specs.declared.Complex.{Complex}
 use Rattle.products.specs.Answers.{remapAnswer}
 use Rattle.products.specs.declared.items.Items.{Items}
 use Rattle.terms.specs.Runs.{run, addOn}
+use Rattle.terms.specs.Runs as runs
 use Rattle.operators.specs.declared.term_set.Term.{Term}
 use Rattle.noise.specs.Pairs.{Key, pairTerms, pairOf, isEmpty, filled}
 use Rattle.noise.specs.Answers.{andThen, told}
@@ -21,9 +22,8 @@ abbrev pub State : Type 0
 State = Said (List NoiseTerm)
 
 -- a state as an answer says it: the empty set stands beside a refusal
-unfoldable pub shown : State → Said Unit × NoiseSet
-shown (gives l) = (done, filled l)
-shown (refuses k s) = (refuses k s, filled [])
+abbrev pub shown : State → Said Unit × NoiseSet
+shown = runs.shown filled
 
 -- an answer stands for a state
 abbrev pub Stands : NoiseSetAnswer → State → Type 0

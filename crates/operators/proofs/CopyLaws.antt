@@ -8,7 +8,8 @@ use lib.ListN.{length, take, getD, set, length-map}
 use lib.Seq.{length-take-le}
 use Rattle.terms.specs.Keyed.{padded}
 use Rattle.terms.specs.Setting.{mostTerms}
-use Rattle.terms.proofs.KeyedLaws.{padded-snoc, map-more}
+use Rattle.terms.proofs.KeyedLaws.{map-more}
+use Rattle.terms.proofs.ClosingLaws.{padded-snoc}
 
 -- u holds the copies of the first i of the n terms in t, and blanks past them
 pub record Copied {A B : Type 0} (f : A → B) (blank : B) (n : ℕ) (t : List A) (u : List B) (i : ℕ) : Type 0 where

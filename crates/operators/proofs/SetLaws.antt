@@ -1,52 +1,39 @@
--- What `filled` and `heldBy` mean for the code: a set that holds its own terms has blanks past its count.
--- The laws of any kind of set, said of this one.
+-- Sets of terms with complex coefficients as a kind of set, for the laws over any kind.
 -- Assumes nothing.
-use Prim.Native.Nat.{ℕ}
 use mathlib.Core.Path.{_≡_, refl}
 use mathlib.Core.List.{List}
 use lib.ListN.{length}
 use Rattle.terms.specs.Keyed.{padded}
 use Rattle.terms.specs.Setting.{mostTerms}
-use Rattle.terms.proofs.SettingLaws.{Held}
 use Rattle.terms.proofs.FilledLaws.{Sets}
 use Rattle.terms.proofs.FilledLaws as laws
 use Rattle.operators.specs.Complexes.{blank, heldBy, filled}
 use Rattle.operators.specs.declared.term_set.Term.{Term}
 use Rattle.operators.specs.declared.term_set.TermSet.{TermSet}
 
--- the set of a count and places
-abbrev pub setOf : ℕ → List Term → TermSet
-setOf n t = record { count = n; terms = t }
-
 -- the set that holds given terms, by its count and its places
-pub filled-is : (l : List Term) → filled l ≡ setOf (length l) (padded mostTerms blank l)
+pub filled-is : (l : List Term) → filled l ≡ record { count = length l; terms = padded mostTerms blank l }
 unfolding filled
 filled-is l = refl
 
--- this kind of set, for the laws over any kind
+-- this kind of set
 abbrev pub termSets : Sets Term TermSet
-termSets = record { blank = blank; count = λ s. s .count; places = λ s. s .terms; make = setOf; filled = filled; made = λ s. refl; made-count = λ n t. refl; made-places = λ n t. refl; fills = filled-is }
+termSets =
+    record {
+      blank = blank;
+      count = λ s. s .count;
+      places = λ s. s .terms;
+      make = λ n t. record { count = n; terms = t };
+      filled = filled;
+      made = λ s. refl;
+      made-count = λ n t. refl;
+      made-places = λ n t. refl;
+      fills = filled-is;
+    }
 
--- a set by its count and its places
-pub filled-by : (s : TermSet) (l : List Term) → s .count ≡ length l → s .terms ≡ padded mostTerms blank l → s ≡ filled l
-filled-by = laws.filled-by termSets
-
+-- the count of the set that holds given terms, and its terms
 pub filled-count : (l : List Term) → filled l .count ≡ length l
 filled-count = laws.filled-count termSets
 
-pub filled-terms : (l : List Term) → filled l .terms ≡ padded mostTerms blank l
-filled-terms = laws.filled-places termSets
-
--- to hold one's own terms is to have blanks past the count
-pub held-own : (s : TermSet) → length (s .terms) ≡ mostTerms → s ≡ filled (heldBy s) → Held blank (s .count) (s .terms)
-held-own = laws.held-own termSets
-
-pub own-held : (s : TermSet) → Held blank (s .count) (s .terms) → s ≡ filled (heldBy s)
-own-held = laws.own-held termSets
-
--- the terms of a filled set, and that it holds its own
 pub held-from : (s : TermSet) (l : List Term) → s ≡ filled l → heldBy s ≡ l
 held-from = laws.held-from termSets
-
-pub own-from : (s : TermSet) (l : List Term) → s ≡ filled l → s ≡ filled (heldBy s)
-own-from = laws.own-from termSets

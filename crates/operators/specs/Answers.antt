@@ -1,19 +1,19 @@
 -- What the entries on sets with complex coefficients answer, refusals first in their order: 0, then 5, then 6; in a chain 5 for a number
 -- given, 6 at its step, and 5 for what is held at the end. `zeros` says whether the set may hold zeros, as a `PauliOperator` may.
 -- Document 01: pauli_operator.rs, decoherence_operator.rs and `Numbers of the no`.
-use Prim.Native.Nat.{ℕ}
-use mathlib.Core.Bool.{Bool, true, false, not, _&&_, cond}
-use mathlib.Core.List.{List, [], _∷_, map}
-use mathlib.Core.Option.{Option, none, some}
-use Rattle.refusal.specs.Refusals.{Said, gives, refuses, done, said, number, siteOf}
+use mathlib.Core.Bool.{Bool, true, not, cond}
+use mathlib.Core.List.{List, [], _∷_}
+use mathlib.Core.Option.{Option}
+use Rattle.refusal.specs.Refusals.{Said, gives, refuses, said, number, siteOf}
 use Rattle.complex.specs.Complex.{inRange}
 use Rattle.complex.specs.declared.Complex.{Complex}
 use Rattle.letters.specs.Matrices.{Letters}
 use Rattle.products.specs.Record.{valid}
 use Rattle.products.specs.Answers.{multiplyAnswer, conjugateAnswer, convertAnswer}
 use Rattle.products.specs.declared.items.Items.{Items}
-use Rattle.terms.specs.Keyed.{held, each}
-use Rattle.terms.specs.Setting.{keyed, coefficientAt, write, hasRoom, added, addAll}
+use Rattle.terms.specs.Setting.{coefficientAt, addAll}
+use Rattle.terms.specs.Entries.{setIn, addIn}
+use Rattle.terms.specs.Entries as entries
 use Rattle.terms.specs.Chains.{timesTerms, conjugateTerms, convertTerms, scaledTerms}
 use Rattle.operators.specs.Complexes.{complexTerms, complexProducts, heldBy, filled, validSet}
 use Rattle.operators.specs.declared.term_set.Term.{Term}
@@ -37,35 +37,28 @@ unfoldable pub setTerm : Bool → TermSet → Items → Complex → Said (List C
 setTerm zeros s k a =
     cond (not (validSet zeros s)) (refuses 0 [], s)
     (cond (not (valid k)) (refuses 0 [], s)
-    (cond (not (inRange a)) (refuses 5 [], s)
-    (cond (not (hasRoom complexTerms k a (heldBy s))) (refuses 6 [], s)
-    (gives (map (λ t. t .coefficient) (held (keyed complexTerms k) (heldBy s))), filled (write complexTerms k a (heldBy s))))))
+    (setIn complexTerms inRange filled (λ t. t .coefficient) s (heldBy s) k a))
 
--- the sum is judged as it will be held
+-- "`add_operator_product` sets old plus new"
 unfoldable pub addTerm : Bool → TermSet → Items → Complex → Said Unit × TermSet
 addTerm zeros s k a =
-    let b = added complexTerms k a (heldBy s) in
     cond (not (validSet zeros s)) (refuses 0 [], s)
     (cond (not (valid k)) (refuses 0 [], s)
-    (cond (not (inRange a)) (refuses 5 [], s)
-    (cond (not (hasRoom complexTerms k b (heldBy s))) (refuses 6 [], s)
-    (cond (not (inRange b)) (refuses 5 [], s)
-    (done, filled (write complexTerms k b (heldBy s)))))))
+    (addIn complexTerms inRange filled s (heldBy s) k a))
 
 -- ---- chains
 
 -- every coefficient is in range
-unfoldable pub allInRange : List Term → Bool
-allInRange l = each (λ t ts. inRange (t .coefficient)) l
+abbrev pub allInRange : List Term → Bool
+allInRange = entries.allInRange complexTerms inRange
 
--- what is held at the end, judged by 5
+-- what is held at the end, judged by 5; s stands beside a refusal
 abbrev pub finally : TermSet → List Term → Said Unit × TermSet
-finally s l = cond (not (allInRange l)) (refuses 5 [], s) (done, filled l)
+finally s l = entries.ended complexTerms inRange filled s (gives l)
 
--- terms added to the empty set one after the other; s stands beside a refusal
-unfoldable pub collected : TermSet → Option (List Term) → Said Unit × TermSet
-collected s none = (refuses 6 [], s)
-collected s (some l) = finally s l
+-- terms added to the empty set one after the other
+abbrev pub collected : TermSet → Option (List Term) → Said Unit × TermSet
+collected = entries.collected complexTerms inRange filled
 
 unfoldable pub multiplySets : Letters → Bool → TermSet → TermSet → Said Unit × TermSet
 multiplySets M zeros s t =

@@ -10,8 +10,8 @@ use Rattle.letters.specs.Matrices.{pauli}
 use Rattle.products.specs.Record.{valid}
 use Rattle.products.specs.Answers.{multiplyAnswer}
 use Rattle.products.specs.declared.items.Items.{Items}
-use Rattle.terms.specs.Keyed.{held}
-use Rattle.terms.specs.Setting.{keyed, coefficientAt, write, hasRoom, added, addAll}
+use Rattle.terms.specs.Setting.{coefficientAt, addAll}
+use Rattle.terms.specs.Entries.{setIn, addIn}
 use Rattle.terms.specs.Chains.{timesTerms}
 use Rattle.operators.specs.Complexes.{complexTerms, complexProducts}
 use Rattle.operators.specs.Complexes as complexes
@@ -33,20 +33,14 @@ unfoldable pub setReal : PauliHamiltonian → Items → Float → Said (List Com
 setReal s k a =
     cond (not (validSet s)) (refuses 0 [], s)
     (cond (not (valid k)) (refuses 0 [], s)
-    (cond (not (partInRange a)) (refuses 5 [], s)
-    (cond (not (hasRoom realTerms k a (heldBy s))) (refuses 6 [], s)
-    (gives (map (λ t. complexOf (t .coefficient)) (held (keyed realTerms k) (heldBy s))), filled (write realTerms k a (heldBy s))))))
+    (setIn realTerms partInRange filled (λ t. complexOf (t .coefficient)) s (heldBy s) k a))
 
--- the sum is judged as it will be held
+-- "`add_operator_product` sets old plus new"
 unfoldable pub addReal : PauliHamiltonian → Items → Float → Said Unit × PauliHamiltonian
 addReal s k a =
-    let b = added realTerms k a (heldBy s) in
     cond (not (validSet s)) (refuses 0 [], s)
     (cond (not (valid k)) (refuses 0 [], s)
-    (cond (not (partInRange a)) (refuses 5 [], s)
-    (cond (not (hasRoom realTerms k b (heldBy s))) (refuses 6 [], s)
-    (cond (not (partInRange b)) (refuses 5 [], s)
-    (done, filled (write realTerms k b (heldBy s)))))))
+    (addIn realTerms partInRange filled s (heldBy s) k a))
 
 -- a Hamiltonian is its own conjugate transpose
 unfoldable pub conjugateReal : PauliHamiltonian → Said Unit × PauliHamiltonian

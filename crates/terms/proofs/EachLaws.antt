@@ -1,17 +1,17 @@
--- Tests of each element of a list: one that follows from another, runs of one element, and the search for a key that must not come again.
--- For any element type.
+-- Tests of each element of a list: one that follows from another, runs of one element, the search for a key that must not come again, and
+-- results. For any element type.
 -- Assumes nothing.
 use Prim.Native.Nat.{ℕ, zero, suc, _+_, _<_}
 use native.Mathlib.Nat.{le-of-suc-le-suc, not-suc-le-zero}
 use native.Mathlib.Omega.{arith}
 use mathlib.Core.Path.{_≡_, refl, sym, ap, _∙_}
 use mathlib.Core.Bool.{Bool, true, not}
-use mathlib.Core.List.{List, [], _∷_}
+use mathlib.Core.List.{List, [], _∷_, _++_, map}
 use lib.Dec.{eqb}
 use lib.ListN.{length, getD, drop, replicate, length-drop}
 use borrow.Author.Tests.{eq-eqb, ne-eqb}
-use Rattle.terms.specs.Keyed.{firstAt, has, each}
-use Rattle.terms.proofs.KeyedLaws.{each-cons, each-head, each-tail, has-true, has-false, by-test}
+use Rattle.terms.specs.Keyed.{firstAt, has, each, concatMap}
+use Rattle.terms.proofs.KeyedLaws.{each-cons, each-head, each-tail, has-true, has-false, by-test, All, all-nil, all-cons, all-head, all-tail}
 
 module _ {A : Type 0} where
   -- what is read past the end does not matter below it
@@ -46,3 +46,29 @@ module _ {A : Type 0} where
       by-test (has test (drop (i + 1) l))
       (λ e. let f = has-true test (drop (i + 1) l) e in ne-eqb (i + 1 + firstAt test (drop (i + 1) l)) n (λ g. omega arith) ∙ ap not (sym e))
       (λ e. let f = has-false test (drop (i + 1) l) e in eq-eqb (i + 1 + firstAt test (drop (i + 1) l)) n (omega arith) ∙ ap not (sym e))
+
+-- ---- results
+
+module _ {A B : Type 0} (P : A → Type 0) (Q : B → Type 0) where
+  -- a property of each result
+  pub all-results : (f : A → B) → ((x : A) → P x → Q (f x)) → (l : List A) → All P l → All Q (map f l)
+  all-results f h [] a = all-nil Q
+  all-results f h (x ∷ l) a = all-cons Q (f x) (map f l) (h x (all-head P x l a)) (all-results f h l (all-tail P x l a))
+
+  -- a property of the elements of two parts
+  all-joined : (l r : List B) → All Q l → All Q r → All Q (l ++ r)
+  all-joined [] r a b = b
+  all-joined (x ∷ l) r a b = all-cons Q x (l ++ r) (all-head Q x l a) (all-joined l r (all-tail Q x l a) b)
+
+  -- a property of results one after the other
+  pub all-lists : (f : A → List B) → ((x : A) → P x → All Q (f x)) → (l : List A) → All P l → All Q (concatMap f l)
+  unfolding concatMap
+  all-lists f h [] a = all-nil Q
+  all-lists f h (x ∷ l) a = all-joined (f x) (concatMap f l) (h x (all-head P x l a)) (all-lists f h l (all-tail P x l a))
+
+-- a test that each result passes, with those after it
+pub each-results : {A B : Type 0} (p : A → List A → Bool) (q : B → List B → Bool) (f : A → B) → ((x : A) (l : List A) → p x l ≡ true → q (f x) (map f l) ≡ true) → (l : List A) → each p l ≡ true
+    → each q (map f l) ≡ true
+unfolding each
+each-results p q f h [] e = refl
+each-results p q f h (x ∷ l) e = each-cons q (f x) (map f l) (h x l (each-head p x l e)) (each-results p q f h l (each-tail p x l e))

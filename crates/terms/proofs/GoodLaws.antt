@@ -27,12 +27,7 @@ module _ {K N : Type 0} (S : Terms K N) (goodKey : K → Bool) (goodCoefficient 
   abbrev rest : S .Term → List (S .Term) → Bool
   rest t ts = goodCoefficient (S .coefficient t) && different S t ts
 
-  -- from its three tests
-  pub good-by : (t : S .Term) (ts : List (S .Term)) → goodKey (S .key t) ≡ true → goodCoefficient (S .coefficient t) ≡ true → different S t ts ≡ true → good t ts ≡ true
-  unfolding goodTerm
-  good-by t ts v c k = and-true v (and-true c k)
-
-  -- and each of them from it
+  -- each of its three tests from it
   pub good-key : (t : S .Term) (ts : List (S .Term)) → good t ts ≡ true → goodKey (S .key t) ≡ true
   unfolding goodTerm
   good-key t ts e = and-left (goodKey (S .key t)) (rest t ts) e

@@ -1,4 +1,5 @@
 pub mod KeyedLaws
+pub mod ClosingLaws
 pub mod SettingLaws
 pub mod SummedLaws
 pub mod Totals
@@ -9,3 +10,6 @@ pub mod PlacesLaws
 pub mod GoodLaws
 pub mod WriteLaws
 pub mod RunLaws
+pub mod AnswerLaws
+pub mod ChainLaws
+pub mod ValidSetLaws

@@ -1,18 +1,21 @@
--- The loops on a set's places, for any kind of terms: the search for a key from a place on, and the closing up over a gap. A set has its count n
--- and its places t. Then what the place that a search answered says of the terms, and places that a test takes for blanks.
+-- The loops on a set's places, for any kind of terms: the search for a key from a place on, a test of each from a place on, and the closing up
+-- over a gap. A set has its count n and its places t. Then what the place that a search answered says of the terms, and places that a test takes
+-- for blanks.
 -- Assumes nothing.
 use Prim.Native.Nat.{ℕ, _+_, _-_, _≤_, _<_}
 use native.Mathlib.Nat.{le-antisymm}
 use native.Mathlib.Omega.{arith}
 use mathlib.Core.Path.{_≡_, refl, sym, ap, _∙_}
-use mathlib.Core.Bool.{Bool, true, false}
+use mathlib.Core.Bool.{Bool, true, false, not}
 use mathlib.Core.List.{List, [], _∷_, _++_, map}
 use lib.ListN.{length, take, drop, getD, set, replicate, length-drop}
 use lib.Seq.{getD-take, length-take-le}
+use borrow.Author.Tests.{not-true, not-false}
 use Rattle.terms.specs.Keyed.{firstAt, held, padded, omitted, each}
 use Rattle.terms.specs.Kind.{Terms}
 use Rattle.terms.specs.Setting.{mostTerms, keyed, coefficientAt}
-use Rattle.terms.proofs.KeyedLaws.{each-head, each-tail, passes, skips, none-left, there, nowhere, firstAt-le, length-omitted, close-turn, open-up, closed-up, headOr-one, headOr-none}
+use Rattle.terms.proofs.KeyedLaws.{each-head, each-tail, each-passes, each-fails, each-end, passes, skips, none-left, there, nowhere, firstAt-le, headOr-one, headOr-none}
+use Rattle.terms.proofs.ClosingLaws.{length-omitted, close-turn, open-up, closed-up}
 use Rattle.terms.proofs.SettingLaws.{Held, held-past}
 
 -- ---- the search: the places from `from` on that are below i do not have the key
@@ -42,6 +45,36 @@ module _ {A : Type 0} {test : A → Bool} {n : ℕ} {t : List A} {from : ℕ} wh
       let long = length-take-le n t (s .few) in
       let p = none-left test (take n t) i (omega arith) in
       omega (arith, s .place)
+
+-- ---- a test of each element of l from the place `from` on: those below i passed, so the later ones decide. l has n elements
+pub record Judged {A : Type 0} (p : A → List A → Bool) (l : List A) (n from i : ℕ) : Type 0 where
+  pub long : length l ≡ n
+  pub within : i ≤ n
+  pub same : each p (drop from l) ≡ each p (drop i l)
+
+module _ {A : Type 0} {p : A → List A → Bool} {l : List A} {n from : ℕ} where
+  pub judged-none : length l ≡ n → from ≤ n → Judged p l n from from
+  judged-none long h = record { long = long; within = h; same = refl }
+
+  -- the test of the element at i answered b: code goes on, or ends there
+  module _ {i : ℕ} {b : Bool} (d : A) (s : Judged p l n from i) (h : i < n) (e : b ≡ p (getD l i d) (drop (i + 1) l)) where
+    pub judged-more : not b ≡ false → Judged p l n from (i + 1)
+    judged-more f =
+        record {
+          long = s .long;
+          within = omega arith;
+          same = s .same ∙ each-passes p l i d (omega (arith, s .long)) (sym e ∙ not-false b f);
+        }
+
+    pub judged-failed : not b ≡ true → false ≡ each p (drop from l)
+    judged-failed f = sym (s .same ∙ each-fails p l i d (omega (arith, s .long)) (sym e ∙ not-true b f))
+
+  pub judged-done : {i : ℕ} → Judged p l n from i → n ≤ i → true ≡ each p (drop from l)
+  judged-done {i} s h = sym (s .same ∙ each-end p l i (omega (arith, s .long)))
+
+-- a value of a set's term, which code reads from its place
+pub term-read : {A B : Type 0} (f : A → B) (n : ℕ) (t : List A) (i : ℕ) (d : A) {b : B} → i < n → b ≡ f (getD t i d) → b ≡ f (getD (take n t) i d)
+term-read f n t i d h e = e ∙ ap f (sym (getD-take n t i d h))
 
 -- ---- closing up: u is t with the terms after the place `at` moved down by one, as far as the place i
 pub record Closing {A : Type 0} (at n : ℕ) (t u : List A) (i : ℕ) : Type 0 where

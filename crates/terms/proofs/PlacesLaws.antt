@@ -14,7 +14,7 @@ use Rattle.letters.proofs.TestLaws.{and-true, and-left, and-right}
 use Rattle.terms.specs.Keyed.{padded, each}
 use Rattle.terms.specs.Setting.{mostTerms}
 use Rattle.terms.specs.Places.{validPlaces}
-use Rattle.terms.proofs.KeyedLaws.{padded-take}
+use Rattle.terms.proofs.ClosingLaws.{padded-take}
 use Rattle.terms.proofs.SettingLaws.{Held}
 use Rattle.terms.proofs.EachLaws.{each-run}
 use Rattle.terms.proofs.PlaceLaws.{held-blanks}

@@ -6,7 +6,7 @@ use native.Mathlib.Numerals.{add-one}
 use native.Mathlib.Omega.{arith}
 use mathlib.Core.Path.{_≡_, refl, sym, ap, _∙_, subst}
 use mathlib.Core.Bool.{true, false}
-use mathlib.Core.List.{List, [], _∷_, _++_}
+use mathlib.Core.List.{List, [], _∷_, _++_, map, append-nil, append-assoc}
 use mathlib.Core.Option.{Option, none, some}
 use lib.ListN.{length, take, getD}
 use lib.Seq.{take-suc, take-all, getD-take, length-take-le}
@@ -52,6 +52,20 @@ pub run-same : {A O : Type 0} (f g : A → O → O) → ((x : A) (o : O) → f x
 run-same f g e [] o = run-nil f o ∙ sym (run-nil g o)
 run-same {A} {O} f g e (x ∷ l) o =
     run-cons f x l o ∙ run-same f g e l (f x o) ∙ ap (λ (p : O). run g l p) (e x o) ∙ sym (run-cons g x l o)
+
+-- steps that join on a list, or one element
+module _ {A B : Type 0} where
+  pub run-joins : (g : A → List B) (l : List A) (r : List B) → run (λ x m. m ++ g x) l r ≡ r ++ concatMap g l
+  run-joins g [] r = run-nil (λ x m. m ++ g x) r ∙ sym (ap (λ (m : List B). r ++ m) (concatMap-nil g) ∙ append-nil r)
+  run-joins g (x ∷ l) r =
+      run-cons (λ x m. m ++ g x) x l r
+      ∙ run-joins g l (r ++ g x)
+      ∙ append-assoc r (g x) (concatMap g l)
+      ∙ ap (λ (m : List B). r ++ m) (sym (concatMap-cons g x l))
+
+  pub run-maps : (f : A → B) (l : List A) (r : List B) → run (λ x m. m ++ f x ∷ []) l r ≡ r ++ map f l
+  run-maps f [] r = run-nil (λ x m. m ++ f x ∷ []) r ∙ sym (append-nil r)
+  run-maps f (x ∷ l) r = run-cons (λ x m. m ++ f x ∷ []) x l r ∙ run-maps f l (r ++ f x ∷ []) ∙ append-assoc r (f x ∷ []) (map f l)
 
 -- ---- a loop with one step a turn: `stands c o` says that the program's c stands for the state o
 

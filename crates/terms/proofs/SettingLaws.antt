@@ -10,13 +10,14 @@ use mathlib.Core.Bool.{Bool, true, false, not, _||_, cond, true≢false}
 use mathlib.Core.List.{List, [], _∷_, _++_}
 use mathlib.Core.Option.{none, some, IsSome, Option·some-injective}
 use lib.Dec.{ltb}
-use lib.ListN.{length, take, drop, getD, set, replicate, length-append, length-replicate, length-set, take-append-drop}
-use lib.Seq.{getD-take, length-take-le}
+use lib.ListN.{length, take, drop, set, replicate, length-append, length-replicate, length-set, take-append-drop}
+use lib.Seq.{length-take-le}
 use borrow.Author.Tests.{lt-ltb, le-ltb, ltb-true, not-true}
 use Rattle.terms.specs.Keyed.{firstAt, held, has, written, struck, padded, omitted, each}
 use Rattle.terms.specs.Kind.{Terms}
-use Rattle.terms.specs.Setting.{mostTerms, keyed, coefficientAt, write, hasRoom, added, addAll}
-use Rattle.terms.proofs.KeyedLaws.{There, Nowhere, there, nowhere, padded-set, padded-snoc, padded-take, closed-up, length-omitted, firstAt-le, headOr-one, headOr-none, length-struck, length-written, length-replaced, has-struck, has-written, each-struck, each-written, All, all-head, all-tail, all-of, by-test, has-fewer}
+use Rattle.terms.specs.Setting.{mostTerms, keyed, write, hasRoom, added, addAll}
+use Rattle.terms.proofs.KeyedLaws.{There, Nowhere, there, nowhere, firstAt-le, length-struck, length-written, length-replaced, has-struck, has-written, each-struck, each-written, All, all-head, all-tail, all-of, by-test, has-fewer}
+use Rattle.terms.proofs.ClosingLaws.{padded-set, padded-snoc, padded-take}
 
 -- the places of a set with count n: n terms, and blanks past them
 pub record Held {A : Type 0} (blank : A) (n : ℕ) (t : List A) : Type 0 where
@@ -47,12 +48,6 @@ module _ {A : Type 0} (blank : A) (n : ℕ) (t : List A) where
   pub terms-of : (l : List A) → n ≡ length l → t ≡ padded mostTerms blank l → take n t ≡ l
   terms-of l e g = ap (λ (m : ℕ). take m t) e ∙ ap (λ (u : List A). take (length l) u) g ∙ padded-take mostTerms blank l
 
-  -- a list's padded places
-  pub held-of : (l : List A) → length l ≤ mostTerms → n ≡ length l → t ≡ padded mostTerms blank l → Held blank n t
-  held-of l few e g =
-      let is : take n t ≡ l = terms-of l e g in
-      record { few = omega arith; long = ap length is ∙ sym e; pads = g ∙ ap (λ (u : List A). padded mostTerms blank u) (sym is) }
-
 or-true : (b : Bool) → (b || true) ≡ true
 or-true true = refl
 or-true false = refl
@@ -71,15 +66,6 @@ module _ {K N : Type 0} (S : Terms K N) (blank : S .Term) (k : K) (n : ℕ) (t :
     pub found-has : has (keyed S k) (take n t) ≡ true
     found-has = at-place blank .has
 
-    -- its term
-    pub found-held : (d : S .Term) → held (keyed S k) (take n t) ≡ getD t i d ∷ []
-    found-held d = at-place d .held ∙ ap (λ (j : ℕ). getD (take n t) j d ∷ []) f ∙ ap (λ (x : S .Term). x ∷ []) (getD-take n t i d h)
-
-    -- its coefficient
-    pub found-coefficient : (d : S .Term) → coefficientAt S k (take n t) ≡ S .coefficient (getD t i d)
-    unfolding coefficientAt
-    found-coefficient d = rw (found-held d) (headOr-one (S .coefficient) (S .zero) (getD t i d))
-
     module _ (a : N) where
       -- there is room for any coefficient
       pub found-room : hasRoom S k a (take n t) ≡ true
@@ -90,26 +76,6 @@ module _ {K N : Type 0} (S : Terms K N) (blank : S .Term) (k : K) (n : ℕ) (t :
       pub struck-is : S .isZero a ≡ true → write S k a (take n t) ≡ omitted i (take n t)
       unfolding write
       struck-is z = rw (z, at-place blank .struck, f, ← add-one i)
-
-      -- with one term fewer
-      pub struck-count : S .isZero a ≡ true → (m : ℕ) → m + 1 ≡ n → m ≡ length (write S k a (take n t))
-      struck-count z m e =
-          let o = length-omitted i (take n t) (omega (arith, s .long)) in
-          let w = ap length (struck-is z) in
-          omega (arith, s .long)
-
-      -- and the places of the rest
-      pub struck-places : S .isZero a ≡ true → (u : List (S .Term)) → u ≡ padded mostTerms blank (omitted i (take n t)) → u ≡ padded mostTerms blank (write S k a (take n t))
-      struck-places z u e = e ∙ ap (λ (l : List (S .Term)). padded mostTerms blank l) (sym (struck-is z))
-
-      -- the loop that closes up ends at the last term's place j, where the blank is put
-      pub struck-closed : S .isZero a ≡ true → (j : ℕ) (u : List (S .Term)) → j + 1 ≡ n → u ≡ take j (omitted i (take n t)) ++ drop j t
-          → set u j blank ≡ padded mostTerms blank (write S k a (take n t))
-      struck-closed z j u e g =
-          let l = take n t in
-          struck-places z (set u j blank)
-          (ap (λ (x : List (S .Term)). set x j blank) (g ∙ ap (λ (x : List (S .Term)). take j (omitted i l) ++ drop j x) (s .pads))
-          ∙ closed-up mostTerms i blank l j (omega (arith, s .long)) (omega (arith, s .long, s .few)) (e ∙ sym (s .long)))
 
       -- with another coefficient its term is replaced
       pub replaced-is : S .isZero a ≡ false → write S k a (take n t) ≡ set (take n t) i (S .term k a)
@@ -139,15 +105,6 @@ module _ {K N : Type 0} (S : Terms K N) (blank : S .Term) (k : K) (n : ℕ) (t :
     -- the key is not there
     pub absent-has : has (keyed S k) (take n t) ≡ false
     absent-has = no-place .has
-
-    -- no term
-    pub absent-held : held (keyed S k) (take n t) ≡ []
-    absent-held = no-place .held
-
-    -- its coefficient is zero
-    pub absent-coefficient : coefficientAt S k (take n t) ≡ S .zero
-    unfolding coefficientAt
-    absent-coefficient = rw absent-held (headOr-none (S .coefficient) (S .zero))
 
     module _ (a : N) where
       -- with zero nothing changes
@@ -300,11 +257,6 @@ module _ {K N : Type 0} (S : Terms K N) where
           by-test (S .same (S .key new) (S .key x))
           (λ q. absurd (true≢false (sym (r .swap k (S .key x) (subst (λ (j : K). S .same j (S .key x) ≡ true) (r .key-of k a) q)) ∙ t)))
           (λ q. q)
-
-  -- the same with the test's premises one by one
-  pub write-keys : ((x : K) → S .same x x ≡ true) → ((x y : K) → S .same x y ≡ true → x ≡ y) → ((k : K) (a : N) → S .key (S .term k a) ≡ k)
-      → (k : K) (a : N) (l : List (S .Term)) → each (different S) l ≡ true → each (different S) (write S k a l) ≡ true
-  write-keys itself equal key-of = keys-write (alike-by S itself equal key-of)
 
   -- ---- additions one after the other
 

@@ -5,3 +5,4 @@ pub mod Places
 pub mod Chains
 pub mod Gaussian
 pub mod Runs
+pub mod Entries

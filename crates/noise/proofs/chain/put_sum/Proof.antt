@@ -8,12 +8,13 @@ use Rattle.complex.specs.declared.Complex.{Complex}
 use Rattle.terms.specs.Setting.{added}
 use Rattle.terms.proofs.WriteLaws.{Puts}
 use Rattle.noise.specs.Pairs.{pairTerms, heldBy}
-use Rattle.noise.proofs.SetLaws.{noiseSets, held-own}
+use Rattle.terms.proofs.FilledLaws.{held-own}
+use Rattle.noise.proofs.SetLaws.{noiseSets}
 use Rattle.noise.proofs.chain.put_sum.Statement.{statement}
 use Rattle.noise.proofs.chain.put_sum.Tie as tie
 
 coefficient-at-requires : tie.Need-coefficient-at-requires
-coefficient-at-requires c κs = held-own (c .args .s) (simp length-map at (c .good .0 .1 .1 .1 .0 .1 .0 .1)) (c .pre) .few
+coefficient-at-requires c κs = held-own noiseSets (c .args .s) (simp length-map at (c .good .0 .1 .1 .1 .0 .1 .0 .1)) (c .pre) .few
 
 sum-requires : tie.Need-sum-requires
 sum-requires c κs = search needs

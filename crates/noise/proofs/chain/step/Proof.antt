@@ -3,7 +3,9 @@
 use mathlib.Core.Path.{sym, _∙_}
 use borrow.Author.Tests.{not-true, not-false}
 use borrow.Author.Needs.{needs}
-use Rattle.noise.proofs.ChainLaws.{chain-own, step-refused, step-full, step-room}
+use Rattle.terms.proofs.ChainLaws.{stands-own, step-refused, step-full, step-room}
+use Rattle.noise.specs.Pairs.{pairTerms}
+use Rattle.noise.proofs.SetLaws.{noiseSets}
 use Rattle.noise.proofs.chain.step.Statement.{statement}
 use Rattle.noise.proofs.chain.step.Tie as tie
 
@@ -14,7 +16,7 @@ enum-told : tie.Need-enum-told
 enum-told c = search needs
 
 put-sum-requires : tie.Need-put-sum-requires
-put-sum-requires c κs = chain-own _ (c .before .before .before .pre)
+put-sum-requires c κs = stands-own noiseSets _ _ _ (c .before .before .before .pre .is)
 
 empty-set-requires : tie.Need-empty-set-requires
 empty-set-requires c κs = search needs
@@ -22,15 +24,15 @@ empty-set-requires c κs = search needs
 returns : tie.Need-returns
 returns c o h =
     let p = c .before .before .before in
-    step-full _ _ _ o h (p .before .enum-told .given .1) _ (sym (p .put-sum .ensures .0) ∙ not-true _ (c .before .if1 .taken)) (c .empty-set .ensures)
+    step-full pairTerms noiseSets _ _ _ o h (p .before .enum-told .given .1) _ (sym (p .put-sum .ensures .0) ∙ not-true _ (c .before .if1 .taken)) (c .empty-set .ensures)
 
 returns-2 : tie.Need-returns-2
-returns-2 c o h = step-refused _ _ _ o h _ (c .before .outcome .given .1)
+returns-2 c o h = step-refused pairTerms noiseSets _ _ _ o h _ (c .before .outcome .given .1)
 
 returns-3 : tie.Need-returns-3
 returns-3 c o h =
     let p = c .before .before .before in
-    step-room _ _ _ o h (p .before .enum-told .given .1) _ (sym (p .put-sum .ensures .0) ∙ not-false _ (c .before .if1 .left)) (p .put-sum .ensures .1)
+    step-room pairTerms noiseSets _ _ _ o h (p .before .enum-told .given .1) _ (sym (p .put-sum .ensures .0) ∙ not-false _ (c .before .if1 .left)) (p .put-sum .ensures .1)
 
 pub step-spec : {M : Type 1} → statement M
 step-spec =

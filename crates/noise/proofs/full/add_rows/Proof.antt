@@ -8,7 +8,8 @@ use Rattle.terms.proofs.RunLaws.{Ran, ran-none, ran-more, ran-done, reached, re
 use Rattle.operators.specs.Complexes.{heldBy as termsOf}
 use Rattle.noise.specs.Pairs.{heldBy}
 use Rattle.noise.specs.Chained.{Stands, fullRow, fullRows}
-use Rattle.noise.proofs.ChainLaws.{own-stands}
+use Rattle.terms.proofs.ChainLaws.{given-stands}
+use Rattle.noise.proofs.SetLaws.{noiseSets}
 use Rattle.noise.proofs.full.add_rows.Statement.{statement}
 use Rattle.noise.proofs.full.add_rows.Tie as tie
 
@@ -20,7 +21,7 @@ abbrev μ-loop : tie.MeasureT-loop
 
 loop-holds : tie.Need-loop-holds Inv-loop μ-loop
 loop-holds c =
-    ran-none (c .pre .1 .0) (simp length-map at (c .good .1 .0 .1 .1 .1 .0 .1 .0 .1)) (gives (heldBy (c .args .s))) (own-stands (c .args .s) (c .pre .0))
+    ran-none (c .pre .1 .0) (simp length-map at (c .good .1 .0 .1 .1 .1 .0 .1 .0 .1)) (gives (heldBy (c .args .s))) (given-stands noiseSets (c .args .s) _ (c .pre .0))
 
 mul-x : tie.Need-mul-x Inv-loop μ-loop
 mul-x c = omega (arith, c .before .loop .inv .few)
@@ -46,7 +47,7 @@ returns : tie.Need-returns Inv-loop μ-loop
 unfolding fullRows
 returns c =
     let b = c .before .before in
-    ran-done (c .before .loop .inv) (c .loop-test .left) (gives (heldBy (b .args .s))) (own-stands (b .args .s) (b .pre .0))
+    ran-done (c .before .loop .inv) (c .loop-test .left) (gives (heldBy (b .args .s))) (given-stands noiseSets (b .args .s) _ (b .pre .0))
 
 pub add-rows-spec : {M : Type 1} → statement M
 add-rows-spec =

@@ -4,7 +4,8 @@ use mathlib.Core.List.{[]}
 use mathlib.Core.Path.{refl, ap}
 use lib.ListN.{replicate}
 use Rattle.noise.specs.declared.noise_set.NoiseTerm.{NoiseTerm}
-use Rattle.noise.proofs.SetLaws.{filled-by}
+use Rattle.terms.proofs.FilledLaws.{filled-by}
+use Rattle.noise.proofs.SetLaws.{noiseSets}
 use Rattle.noise.proofs.noise_set.empty_set.Statement.{statement}
 use Rattle.noise.proofs.noise_set.empty_set.Tie as tie
 
@@ -12,7 +13,7 @@ blank-term-requires : tie.Need-blank-term-requires
 blank-term-requires c κs = search needs
 
 returns : tie.Need-returns
-returns c = filled-by _ [] refl (ap (λ (t : NoiseTerm). replicate 64 t) (c .blank-term .ensures))
+returns c = filled-by noiseSets _ [] refl (ap (λ (t : NoiseTerm). replicate 64 t) (c .blank-term .ensures))
 
 pub empty-set-spec : {M : Type 1} → statement M
 empty-set-spec = tie.close (tie.spec blank-term-requires returns)

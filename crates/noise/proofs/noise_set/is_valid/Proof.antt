@@ -4,7 +4,8 @@ use mathlib.Core.Path.{_≡_, sym, _∙_}
 use lib.ListN.{length, length-map}
 use borrow.Author.Needs.{needs}
 use borrow.Author.Tests.{le-leb, lt-leb}
-use Rattle.noise.proofs.ValidLaws.{valid-is}
+use Rattle.terms.proofs.ValidSetLaws.{valid-is}
+use Rattle.noise.proofs.ValidLaws.{validNoiseSets}
 use Rattle.noise.proofs.noise_set.is_valid.Statement.{statement}
 use Rattle.noise.proofs.noise_set.is_valid.Tie as tie
 
@@ -14,7 +15,7 @@ whole c = simp length-map at (c .good .0 .1 .1 .1 .0 .1 .0 .1)
 returns : tie.Need-returns
 returns c =
     let b = c .before .before in
-    rw (valid-is (b .args .s) (whole b), lt-leb _ _ (c .if1 .taken))
+    rw (valid-is validNoiseSets (b .args .s) (whole b), lt-leb _ _ (c .if1 .taken))
 
 good-terms-requires : tie.Need-good-terms-requires
 good-terms-requires c κs = search needs
@@ -26,13 +27,13 @@ returns-2 : tie.Need-returns-2
 returns-2 c =
     let b = c .before .before .before .before .before in
     let good = sym (c .before .before .good-terms .ensures) ∙ c .before .if2 .taken in
-    rw (valid-is (b .args .s) (whole b), le-leb _ _ (c .before .before .before .if1 .left), good, c .blanks-past .ensures)
+    rw (valid-is validNoiseSets (b .args .s) (whole b), le-leb _ _ (c .before .before .before .if1 .left), good, c .blanks-past .ensures)
 
 returns-3 : tie.Need-returns-3
 returns-3 c =
     let b = c .before .before .before .before in
     let good = sym (c .before .good-terms .ensures) ∙ c .if2 .left in
-    rw (valid-is (b .args .s) (whole b), le-leb _ _ (c .before .before .if1 .left), good)
+    rw (valid-is validNoiseSets (b .args .s) (whole b), le-leb _ _ (c .before .before .if1 .left), good)
 
 pub is-valid-spec : {M : Type 1} → statement M
 is-valid-spec =

@@ -7,14 +7,15 @@ use Rattle.terms.proofs.SettingLaws.{Held}
 use Rattle.terms.specs.Keyed.{firstAt}
 use Rattle.terms.specs.Setting.{keyed}
 use Rattle.noise.specs.Pairs.{pairTerms, blank, heldBy}
-use Rattle.noise.proofs.SetLaws.{noiseSets, held-own}
+use Rattle.terms.proofs.FilledLaws.{held-own}
+use Rattle.noise.proofs.SetLaws.{noiseSets}
 use Rattle.terms.proofs.WriteLaws.{puts-struck, puts-replaced, puts-free, puts-full, puts-appended}
 use Rattle.noise.proofs.noise_set.put.Statement.{statement}
 use Rattle.noise.proofs.noise_set.put.Tie as tie
 
 -- the set holds its own terms
 own : (c : tie.Start) → Held blank (c .args .s .count) (c .args .s .terms)
-own c = held-own (c .args .s) (simp length-map at (c .good .0 .1 .1 .1 .0 .1 .0 .1)) (c .pre)
+own c = held-own noiseSets (c .args .s) (simp length-map at (c .good .0 .1 .1 .1 .0 .1 .0 .1)) (c .pre)
 
 -- the search answered the place of the first term with the key
 place : (c : tie.After-find-from) → c .find-from .result ≡ firstAt (keyed pairTerms (c .before .args .left, c .before .args .right)) (heldBy (c .before .args .s))

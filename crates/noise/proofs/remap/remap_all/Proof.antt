@@ -9,7 +9,8 @@ use Rattle.refusal.specs.Refusals.{gives}
 use Rattle.products.specs.Lists.{at}
 use Rattle.terms.proofs.RunLaws.{Ran, ran-none, ran-more, ran-done, reached, reached-is}
 use Rattle.noise.specs.Chained.{Stands, remapOne, remapRun}
-use Rattle.noise.proofs.ChainLaws.{given-stands}
+use Rattle.terms.proofs.ChainLaws.{given-stands}
+use Rattle.noise.proofs.SetLaws.{noiseSets}
 use Rattle.noise.proofs.remap.remap_all.Statement.{statement}
 use Rattle.noise.proofs.remap.remap_all.Tie as tie
 
@@ -24,7 +25,7 @@ empty-set-requires c κs = search needs
 
 loop-holds : tie.Need-loop-holds Inv-loop μ-loop
 loop-holds c =
-    ran-none (c .before .pre) (simp length-map at (c .before .good .0 .1 .1 .1 .0 .1 .0 .1)) (gives []) (given-stands _ [] (c .empty-set .ensures))
+    ran-none (c .before .pre) (simp length-map at (c .before .good .0 .1 .1 .1 .0 .1 .0 .1)) (gives []) (given-stands noiseSets _ [] (c .empty-set .ensures))
 
 mul-x : tie.Need-mul-x Inv-loop μ-loop
 mul-x c = omega (arith, c .before .loop .inv .few)
@@ -46,7 +47,7 @@ loop-again c = ran-more _ (c .before .before .before .loop .inv) (c .before .bef
 
 returns : tie.Need-returns Inv-loop μ-loop
 unfolding remapRun
-returns c = ran-done (c .before .loop .inv) (c .loop-test .left) (gives []) (given-stands _ [] (c .before .before .empty-set .ensures))
+returns c = ran-done (c .before .loop .inv) (c .loop-test .left) (gives []) (given-stands noiseSets _ [] (c .before .before .empty-set .ensures))
 
 pub remap-all-spec : {M : Type 1} → statement M
 remap-all-spec =

@@ -7,14 +7,16 @@ use native.Mathlib.Omega.{arith}
 use borrow.Author.Needs.{needs}
 use Rattle.letters.specs.Matrices.{lettersOf}
 use Rattle.operators.specs.Complexes.{termOf}
-use Rattle.operators.specs.Chained.{rowTerms}
-use Rattle.operators.proofs.SetLaws.{held-own}
-use Rattle.operators.proofs.GatherLaws.{Gathered, gathered-none, gathered-chain, gathered-done, row-none, row-more}
+use Rattle.operators.specs.Chained.{rowTerm, rowTerms}
+use Rattle.terms.proofs.FilledLaws.{held-own}
+use Rattle.operators.proofs.SetLaws.{termSets}
+use Rattle.terms.proofs.RunLaws.{ran-none}
+use Rattle.operators.proofs.GatherLaws.{Gathers, gathers-chain, adds, adds-more, adds-done, row-term}
 use Rattle.operators.proofs.chain.add_row.Statement.{statement}
 use Rattle.operators.proofs.chain.add_row.Tie as tie
 
 abbrev Inv-loop : tie.InvT-loop
-Inv-loop kind t p a n out₀ j₀ out j = Gathered (rowTerms (lettersOf kind) (termOf p a)) n (t .terms) out₀ j out
+Inv-loop kind t p a n out₀ j₀ out j = Gathers (adds (rowTerm (lettersOf kind) (termOf p a))) n (t .terms) out₀ j out
 
 abbrev μ-loop : tie.MeasureT-loop
 μ-loop kind t p a n out₀ j₀ out j = n - j
@@ -22,7 +24,7 @@ abbrev μ-loop : tie.MeasureT-loop
 loop-holds : tie.Need-loop-holds Inv-loop μ-loop
 loop-holds c =
     let whole : length (c .before .before .args .t4 .terms) ≡ 64 = simp length-map at (c .before .before .good .1 .1 .1 .0 .1 .1 .1 .0 .1 .0 .1) in
-    gathered-none (row-none _ _) (held-own _ whole (c .before .before .pre .1) .few) whole (c .before .before .pre .0)
+    ran-none (held-own termSets _ whole (c .before .before .pre .1) .few) whole (c .before .before .pre .0 .terms) (c .before .before .pre .0 .is)
 
 mul-y : tie.Need-mul-y Inv-loop μ-loop
 mul-y c = omega (arith, c .before .loop .inv .few)
@@ -43,7 +45,7 @@ product-requires-2 : tie.Need-product-requires-2 Inv-loop μ-loop
 product-requires-2 c κs = search needs
 
 step-requires : tie.Need-step-requires Inv-loop μ-loop
-step-requires c κs = gathered-chain (c .before .before .before .before .before .before .before .before .loop .inv)
+step-requires c κs = gathers-chain (c .before .before .before .before .before .before .before .before .loop .inv)
 
 add-j : tie.Need-add-j Inv-loop μ-loop
 add-j c = omega arith
@@ -55,11 +57,13 @@ loop-again : tie.Need-loop-again Inv-loop μ-loop
 loop-again c =
     let l = c .before .before .before .before .before .before .before .before in
     let z = c .before .before .before .before .before in
-    row-more _ _ (l .before .loop .inv) (l .loop-test .taken) _ (z .multiply .result) _ _ _ (z .multiply .ensures) (c .before .before .before .unit-of-i .ensures)
-    (c .before .before .product .ensures) (c .before .product2 .ensures) (c .step .ensures)
+    adds-more _ (l .before .loop .inv) (l .loop-test .taken) _ _
+    (row-term _ _ _ (z .multiply .result) _ _ _ (z .multiply .ensures) (c .before .before .before .unit-of-i .ensures) (c .before .before .product .ensures) (c .before .product2 .ensures))
+    (c .step .ensures)
 
 returns : tie.Need-returns Inv-loop μ-loop
-returns c ts h = gathered-done (c .before .loop .inv) (c .loop-test .left) ts h
+unfolding rowTerms
+returns c ts h = adds-done _ (c .before .loop .inv) (c .loop-test .left) ts h
 
 pub add-row-spec : {M : Type 1} → statement M
 add-row-spec =

@@ -7,14 +7,17 @@ use lib.ListN.{length, length-map}
 use native.Mathlib.Omega.{arith}
 use borrow.Author.Needs.{needs}
 use Rattle.letters.specs.Matrices.{lettersOf}
-use Rattle.operators.specs.Chained.{conjugates}
-use Rattle.operators.proofs.SetLaws.{held-own}
-use Rattle.operators.proofs.GatherLaws.{Gathered, start-is, start-chain, gathered-none, gathered-chain, gathered-done, conjugates-none, conjugates-more}
+use Rattle.terms.specs.Chains.{conjugateTerms}
+use Rattle.terms.proofs.FilledLaws.{held-own}
+use Rattle.operators.proofs.SetLaws.{termSets}
+use Rattle.terms.proofs.RunLaws.{ran-none}
+use Rattle.operators.proofs.ChainLaws.{start-is}
+use Rattle.operators.proofs.GatherLaws.{Gathers, gathers-chain, adds, adds-more, adds-done, conjugateTerm, conjugate-term}
 use Rattle.operators.proofs.chain.conjugated.Statement.{statement}
 use Rattle.operators.proofs.chain.conjugated.Tie as tie
 
 abbrev Inv-loop : tie.InvT-loop
-Inv-loop kind s n out₀ i₀ out i = Gathered (conjugates (lettersOf kind)) n (s .terms) out₀ i out
+Inv-loop kind s n out₀ i₀ out i = Gathers (adds (conjugateTerm (lettersOf kind))) n (s .terms) out₀ i out
 
 abbrev μ-loop : tie.MeasureT-loop
 μ-loop kind s n out₀ i₀ out i = n - i
@@ -25,7 +28,7 @@ empty-set-requires c κs = search needs
 loop-holds : tie.Need-loop-holds Inv-loop μ-loop
 loop-holds c =
     let whole : length (c .before .args .t2 .terms) ≡ 64 = simp length-map at (c .before .good .1 .0 .1 .1 .1 .0 .1 .0 .1) in
-    gathered-none (conjugates-none _) (held-own _ whole (c .before .pre) .few) whole (start-chain _ (c .empty-set .ensures))
+    ran-none (held-own termSets _ whole (c .before .pre) .few) whole [] (start-is _ (c .empty-set .ensures))
 
 mul-x : tie.Need-mul-x Inv-loop μ-loop
 mul-x c = omega (arith, c .before .loop .inv .few)
@@ -46,7 +49,7 @@ product-requires : tie.Need-product-requires Inv-loop μ-loop
 product-requires c κs = search needs
 
 step-requires : tie.Need-step-requires Inv-loop μ-loop
-step-requires c κs = gathered-chain (c .before .before .before .before .before .before .before .before .loop .inv)
+step-requires c κs = gathers-chain (c .before .before .before .before .before .before .before .before .loop .inv)
 
 add-i : tie.Need-add-i Inv-loop μ-loop
 add-i c = omega arith
@@ -58,11 +61,13 @@ loop-again : tie.Need-loop-again Inv-loop μ-loop
 loop-again c =
     let l = c .before .before .before .before .before .before .before .before in
     let z = c .before .before .before .before .before in
-    conjugates-more _ (l .before .loop .inv) (l .loop-test .taken) _ (z .conjugate .result) _ _ _ (z .conjugate .ensures) (c .before .before .before .conjugate2 .ensures)
-    (c .before .before .unit-of-i .ensures) (c .before .product .ensures) (c .step .ensures)
+    adds-more _ (l .before .loop .inv) (l .loop-test .taken) _ _
+    (conjugate-term _ _ (z .conjugate .result) _ _ _ (z .conjugate .ensures) (c .before .before .before .conjugate2 .ensures) (c .before .before .unit-of-i .ensures) (c .before .product .ensures))
+    (c .step .ensures)
 
 returns : tie.Need-returns Inv-loop μ-loop
-returns c = gathered-done (c .before .loop .inv) (c .loop-test .left) [] (start-is _ (c .before .before .empty-set .ensures))
+unfolding conjugateTerms
+returns c = adds-done _ (c .before .loop .inv) (c .loop-test .left) [] (start-is _ (c .before .before .empty-set .ensures))
 
 pub conjugated-spec : {M : Type 1} → statement M
 conjugated-spec =

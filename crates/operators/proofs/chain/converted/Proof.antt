@@ -8,14 +8,17 @@ use native.Mathlib.Omega.{arith}
 use borrow.Author.Needs.{needs}
 use Rattle.letters.specs.Matrices.{lettersOf}
 use Rattle.letters.specs.Answers.{other}
-use Rattle.operators.specs.Chained.{conversions}
-use Rattle.operators.proofs.SetLaws.{held-own}
-use Rattle.operators.proofs.GatherLaws.{Gathered, start-is, start-chain, gathered-none, gathered-chain, gathered-done, conversions-none, conversions-more}
+use Rattle.terms.specs.Chains.{convertTerms}
+use Rattle.terms.proofs.FilledLaws.{held-own}
+use Rattle.operators.proofs.SetLaws.{termSets}
+use Rattle.terms.proofs.RunLaws.{ran-none}
+use Rattle.operators.proofs.ChainLaws.{start-is}
+use Rattle.operators.proofs.GatherLaws.{Gathers, gathers-chain, adds, adds-more, adds-done, convertTerm, convert-term}
 use Rattle.operators.proofs.chain.converted.Statement.{statement}
 use Rattle.operators.proofs.chain.converted.Tie as tie
 
 abbrev Inv-loop : tie.InvT-loop
-Inv-loop kind s n out₀ i₀ out i = Gathered (conversions (lettersOf kind) (lettersOf (other kind))) n (s .terms) out₀ i out
+Inv-loop kind s n out₀ i₀ out i = Gathers (adds (convertTerm (lettersOf kind) (lettersOf (other kind)))) n (s .terms) out₀ i out
 
 abbrev μ-loop : tie.MeasureT-loop
 μ-loop kind s n out₀ i₀ out i = n - i
@@ -26,7 +29,7 @@ empty-set-requires c κs = search needs
 loop-holds : tie.Need-loop-holds Inv-loop μ-loop
 loop-holds c =
     let whole : length (c .before .args .t2 .terms) ≡ 64 = simp length-map at (c .before .good .1 .0 .1 .1 .1 .0 .1 .0 .1) in
-    gathered-none (conversions-none _ _) (held-own _ whole (c .before .pre) .few) whole (start-chain _ (c .empty-set .ensures))
+    ran-none (held-own termSets _ whole (c .before .pre) .few) whole [] (start-is _ (c .empty-set .ensures))
 
 mul-x : tie.Need-mul-x Inv-loop μ-loop
 mul-x c = omega (arith, c .before .loop .inv .few)
@@ -44,7 +47,7 @@ product-requires : tie.Need-product-requires Inv-loop μ-loop
 product-requires c κs = search needs
 
 step-requires : tie.Need-step-requires Inv-loop μ-loop
-step-requires c κs = gathered-chain (c .before .before .before .before .before .before .before .loop .inv)
+step-requires c κs = gathers-chain (c .before .before .before .before .before .before .before .loop .inv)
 
 add-i : tie.Need-add-i Inv-loop μ-loop
 add-i c = omega arith
@@ -56,11 +59,13 @@ loop-again : tie.Need-loop-again Inv-loop μ-loop
 loop-again c =
     let l = c .before .before .before .before .before .before .before in
     let z = c .before .before .before .before in
-    conversions-more _ _ (l .before .loop .inv) (l .loop-test .taken) _ (z .convert .result) _ _ (z .convert .ensures)
-    (c .before .before .unit-of-i .ensures) (c .before .product .ensures) (c .step .ensures)
+    adds-more _ (l .before .loop .inv) (l .loop-test .taken) _ _
+    (convert-term _ _ _ (z .convert .result) _ _ (z .convert .ensures) (c .before .before .unit-of-i .ensures) (c .before .product .ensures))
+    (c .step .ensures)
 
 returns : tie.Need-returns Inv-loop μ-loop
-returns c = gathered-done (c .before .loop .inv) (c .loop-test .left) [] (start-is _ (c .before .before .empty-set .ensures))
+unfolding convertTerms
+returns c = adds-done _ (c .before .loop .inv) (c .loop-test .left) [] (start-is _ (c .before .before .empty-set .ensures))
 
 pub converted-spec : {M : Type 1} → statement M
 converted-spec =

@@ -1,21 +1,24 @@
 -- `chain::multiplied`: after each turn the rows of the left terms so far were added.
 -- Assumes nothing.
 use Prim.Native.Nat.{_-_}
-use mathlib.Core.Path.{_≡_}
+use mathlib.Core.Path.{_≡_, ap, _∙_}
 use mathlib.Core.List.{[]}
 use lib.ListN.{length, length-map}
 use native.Mathlib.Omega.{arith}
 use borrow.Author.Needs.{needs}
 use Rattle.letters.specs.Matrices.{lettersOf}
 use Rattle.operators.specs.Complexes.{heldBy}
-use Rattle.operators.specs.Chained.{productTerms}
-use Rattle.operators.proofs.SetLaws.{held-own}
-use Rattle.operators.proofs.GatherLaws.{Gathered, start-is, start-chain, gathered-none, gathered-chain, gathered-done, products-none, products-more}
+use Rattle.operators.specs.Chained.{after, rowTerms}
+use Rattle.terms.proofs.FilledLaws.{held-own}
+use Rattle.operators.proofs.SetLaws.{termSets}
+use Rattle.terms.proofs.RunLaws.{ran-none, ran-more}
+use Rattle.operators.proofs.ChainLaws.{start-is}
+use Rattle.operators.proofs.GatherLaws.{Gathers, gathers-chain, addsAll, adds-all-done, products-rows}
 use Rattle.operators.proofs.chain.multiplied.Statement.{statement}
 use Rattle.operators.proofs.chain.multiplied.Tie as tie
 
 abbrev Inv-loop : tie.InvT-loop
-Inv-loop kind t s n out₀ left₀ out left = Gathered (λ l. productTerms (lettersOf kind) l (heldBy t)) n (s .terms) out₀ left out
+Inv-loop kind t s n out₀ left₀ out left = Gathers (addsAll (λ x. rowTerms (lettersOf kind) x (heldBy t))) n (s .terms) out₀ left out
 
 abbrev μ-loop : tie.MeasureT-loop
 μ-loop kind t s n out₀ left₀ out left = n - left
@@ -26,7 +29,7 @@ empty-set-requires c κs = search needs
 loop-holds : tie.Need-loop-holds Inv-loop μ-loop
 loop-holds c =
     let whole : length (c .before .args .t2 .terms) ≡ 64 = simp length-map at (c .before .good .1 .0 .1 .1 .1 .0 .1 .0 .1) in
-    gathered-none (products-none _ _) (held-own _ whole (c .before .pre .0) .few) whole (start-chain _ (c .empty-set .ensures))
+    ran-none (held-own termSets _ whole (c .before .pre .0) .few) whole [] (start-is _ (c .empty-set .ensures))
 
 mul-x : tie.Need-mul-x Inv-loop μ-loop
 mul-x c = omega (arith, c .before .loop .inv .few)
@@ -35,7 +38,7 @@ element-copy-out-x : tie.Need-element-copy-out-x Inv-loop μ-loop
 element-copy-out-x c = omega (arith, c .before .loop .inv .few)
 
 add-row-requires : tie.Need-add-row-requires Inv-loop μ-loop
-add-row-requires c κs = (gathered-chain (c .before .before .loop .inv), c .before .before .before .before .pre .1)
+add-row-requires c κs = (gathers-chain (c .before .before .loop .inv), c .before .before .before .before .pre .1)
 
 add-left : tie.Need-add-left Inv-loop μ-loop
 add-left c = omega (arith, c .before .before .before .loop .inv .few)
@@ -44,10 +47,10 @@ loop-less : tie.Need-loop-less Inv-loop μ-loop
 loop-less c = omega arith
 
 loop-again : tie.Need-loop-again Inv-loop μ-loop
-loop-again c = products-more _ _ (c .before .before .before .loop .inv) (c .before .before .loop-test .taken) _ (c .add-row .ensures)
+loop-again c = ran-more _ (c .before .before .before .loop .inv) (c .before .before .loop-test .taken) (c .add-row .ensures)
 
 returns : tie.Need-returns Inv-loop μ-loop
-returns c = gathered-done (c .before .loop .inv) (c .loop-test .left) [] (start-is _ (c .before .before .empty-set .ensures))
+returns c = adds-all-done _ (c .before .loop .inv) (c .loop-test .left) [] (start-is _ (c .before .before .empty-set .ensures)) ∙ ap after (products-rows _ _ _)
 
 pub multiplied-spec : {M : Type 1} → statement M
 multiplied-spec =

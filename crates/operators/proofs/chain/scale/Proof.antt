@@ -3,10 +3,14 @@
 use mathlib.Core.Path.{sym, _∙_}
 use borrow.Author.Tests.{not-true, not-false}
 use borrow.Author.Needs.{needs}
+use Rattle.complex.specs.Complex.{inRange}
+use Rattle.operators.specs.Complexes.{complexTerms}
 use Rattle.operators.specs.Answers.{scaleSet}
-use Rattle.operators.proofs.SetLaws.{own-from}
+use Rattle.terms.proofs.FilledLaws.{own-from}
+use Rattle.operators.proofs.SetLaws.{termSets}
 use Rattle.operators.proofs.ValidLaws.{valid-own}
-use Rattle.operators.proofs.ChainLaws.{filled-range, finally-out, finally-in}
+use Rattle.terms.proofs.ChainLaws.{finally-out, finally-in}
+use Rattle.operators.proofs.ChainLaws.{filled-range}
 use Rattle.operators.proofs.chain.scale.Statement.{statement}
 use Rattle.operators.proofs.chain.scale.Tie as tie
 
@@ -31,7 +35,7 @@ scaled-requires : tie.Need-scaled-requires
 scaled-requires c κs = valid-own _ _ (sym (c .before .before .before .is-valid .ensures) ∙ not-false _ (c .before .before .if1 .left))
 
 all-in-range-requires : tie.Need-all-in-range-requires
-all-in-range-requires c κs = own-from _ _ (c .scaled .ensures)
+all-in-range-requires c κs = own-from termSets _ _ (c .scaled .ensures)
 
 returns-3 : tie.Need-returns-3
 unfolding scaleSet
@@ -40,7 +44,7 @@ returns-3 c =
     let good = sym (two .before .before .before .is-valid .ensures) ∙ not-false _ (two .before .before .if1 .left) in
     let small = sym (two .before .in-range .ensures) ∙ not-false _ (two .if2 .left) in
     let bad = filled-range _ _ _ (c .before .before .scaled .ensures) (sym (c .before .all-in-range .ensures) ∙ not-true _ (c .if3 .taken)) in
-    rw (good, small) (finally-out _ _ bad)
+    rw (good, small) (finally-out complexTerms inRange termSets _ _ bad)
 
 returns-4 : tie.Need-returns-4
 unfolding scaleSet
@@ -49,7 +53,7 @@ returns-4 c =
     let good = sym (two .before .before .before .is-valid .ensures) ∙ not-false _ (two .before .before .if1 .left) in
     let small = sym (two .before .in-range .ensures) ∙ not-false _ (two .if2 .left) in
     let fine = filled-range _ _ _ (c .before .before .scaled .ensures) (sym (c .before .all-in-range .ensures) ∙ not-false _ (c .if3 .left)) in
-    rw (good, small) (finally-in _ _ _ (c .before .before .scaled .ensures) fine)
+    rw (good, small) (finally-in complexTerms inRange termSets _ _ _ (c .before .before .scaled .ensures) fine)
 
 pub scale-spec : {M : Type 1} → statement M
 scale-spec =

@@ -5,7 +5,8 @@ use mathlib.Core.Path.{_≡_, refl}
 use lib.ListN.{length, length-map}
 use native.Mathlib.Omega.{arith}
 use borrow.Author.Needs.{needs}
-use Rattle.operators.proofs.SetLaws.{held-own}
+use Rattle.terms.proofs.FilledLaws.{held-own}
+use Rattle.operators.proofs.SetLaws.{termSets}
 use Rattle.operators.proofs.GatherLaws.{Scaled, scaledTerm, scaled-none, scaled-turn, scaled-set}
 use Rattle.operators.proofs.chain.scaled.Statement.{statement}
 use Rattle.operators.proofs.chain.scaled.Tie as tie
@@ -19,7 +20,7 @@ abbrev μ-loop : tie.MeasureT-loop
 loop-holds : tie.Need-loop-holds Inv-loop μ-loop
 loop-holds c =
     let whole : length (c .args .t1 .terms) ≡ 64 = simp length-map at (c .good .0 .1 .1 .1 .0 .1 .0 .1) in
-    (refl, scaled-none (held-own _ whole (c .pre) .few) whole)
+    (refl, scaled-none (held-own termSets _ whole (c .pre) .few) whole)
 
 mul-x : tie.Need-mul-x Inv-loop μ-loop
 mul-x c = omega (arith, c .before .loop .inv .1 .few)

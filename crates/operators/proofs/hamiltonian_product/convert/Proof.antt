@@ -4,7 +4,8 @@ use mathlib.Core.Path.{sym, _∙_}
 use borrow.Author.Tests.{not-true, not-false}
 use borrow.Author.Needs.{needs}
 use Rattle.operators.specs.RealAnswers.{intoOperator}
-use Rattle.operators.proofs.SetLaws.{own-from}
+use Rattle.terms.proofs.FilledLaws.{own-from}
+use Rattle.operators.proofs.SetLaws.{termSets}
 use Rattle.operators.proofs.RealValidLaws.{valid-own}
 use Rattle.operators.proofs.GatherLaws.{unchanged-of}
 use Rattle.operators.proofs.hamiltonian_product.convert.Statement.{statement}
@@ -26,7 +27,7 @@ complex-terms-requires : tie.Need-complex-terms-requires
 complex-terms-requires c κs = valid-own _ (sym (c .before .is-valid .ensures) ∙ not-false _ (c .if1 .left))
 
 added-again-requires : tie.Need-added-again-requires
-added-again-requires c κs = own-from _ _ (c .complex-terms .ensures)
+added-again-requires c κs = own-from termSets _ _ (c .complex-terms .ensures)
 
 empty-set-requires-2 : tie.Need-empty-set-requires-2
 empty-set-requires-2 c κs = search needs

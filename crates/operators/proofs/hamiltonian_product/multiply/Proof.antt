@@ -5,7 +5,8 @@ use borrow.Author.Tests.{not-true, not-false}
 use borrow.Author.Needs.{needs}
 use Rattle.letters.specs.Matrices.{lettersOf}
 use Rattle.operators.specs.RealAnswers.{multiplyReals}
-use Rattle.operators.proofs.SetLaws.{own-from}
+use Rattle.terms.proofs.FilledLaws.{own-from}
+use Rattle.operators.proofs.SetLaws.{termSets}
 use Rattle.operators.proofs.RealValidLaws.{valid-own}
 use Rattle.operators.proofs.GatherLaws.{products-of}
 use Rattle.operators.proofs.hamiltonian_product.multiply.Statement.{statement}
@@ -44,7 +45,7 @@ complex-terms-requires-2 : tie.Need-complex-terms-requires-2
 complex-terms-requires-2 c κs = valid-own _ (sym (c .before .before .is-valid2 .ensures) ∙ not-false _ (c .before .if2 .left))
 
 multiplied-requires : tie.Need-multiplied-requires
-multiplied-requires c κs = (own-from _ _ (c .before .complex-terms .ensures), own-from _ _ (c .complex-terms2 .ensures))
+multiplied-requires c κs = (own-from termSets _ _ (c .before .complex-terms .ensures), own-from termSets _ _ (c .complex-terms2 .ensures))
 
 empty-set-requires-3 : tie.Need-empty-set-requires-3
 empty-set-requires-3 c κs = search needs

@@ -10,8 +10,9 @@ use Rattle.operators.specs.Complexes as complexes
 use Rattle.operators.specs.Reals.{blank, complexTerm}
 use Rattle.operators.specs.declared.term_set.TermSet.{TermSet}
 use Rattle.operators.proofs.CopyLaws.{Copied, copied-none, copied-more, copied-done, copied-count}
-use Rattle.operators.proofs.RealSetLaws.{held-own}
-use Rattle.operators.proofs.SetLaws.{filled-by, filled-terms}
+use Rattle.terms.proofs.FilledLaws.{filled-by, filled-places, held-own}
+use Rattle.operators.proofs.RealSetLaws.{realSets}
+use Rattle.operators.proofs.SetLaws.{termSets}
 use Rattle.operators.proofs.pauli_hamiltonian.complex_terms.Statement.{statement}
 use Rattle.operators.proofs.pauli_hamiltonian.complex_terms.Tie as tie
 
@@ -26,7 +27,7 @@ whole : (c : tie.Start Inv-loop μ-loop) → length (c .args .t1 .terms) ≡ 64
 whole c = simp length-map at (c .good .0 .1 .1 .1 .0 .1 .0 .1)
 
 own : (c : tie.Start Inv-loop μ-loop) → Held blank (c .args .t1 .count) (c .args .t1 .terms)
-own c = held-own (c .args .t1) (whole c) (c .pre)
+own c = held-own realSets (c .args .t1) (whole c) (c .pre)
 
 empty-set-requires : tie.Need-empty-set-requires Inv-loop μ-loop
 empty-set-requires c κs = search needs
@@ -35,7 +36,7 @@ loop-holds : tie.Need-loop-holds Inv-loop μ-loop
 loop-holds c =
     let w = whole (c .before) in
     let few = own (c .before) .few in
-    copied-none (omega arith) (omega arith) (ap (λ (o : TermSet). o .terms) (c .empty-set .ensures) ∙ filled-terms [])
+    copied-none (omega arith) (omega arith) (ap (λ (o : TermSet). o .terms) (c .empty-set .ensures) ∙ filled-places termSets [])
 
 mul-t : tie.Need-mul-t Inv-loop μ-loop
 mul-t c = omega arith
@@ -61,7 +62,7 @@ loop-again c = copied-more _ (c .before .before .before .loop .inv) (omega arith
 returns : tie.Need-returns Inv-loop μ-loop
 returns c =
     let l = c .before in
-    filled-by _ _ (copied-count (l .loop .inv)) (copied-done (l .loop .inv) (omega arith))
+    filled-by termSets _ _ (copied-count (l .loop .inv)) (copied-done (l .loop .inv) (omega arith))
 
 pub complex-terms-spec : {M : Type 1} → statement M
 complex-terms-spec =

@@ -4,7 +4,8 @@ use mathlib.Core.Path.{_≡_, sym, _∙_}
 use lib.ListN.{length, length-map}
 use borrow.Author.Needs.{needs}
 use borrow.Author.Tests.{not-true, not-false}
-use Rattle.operators.proofs.RealValidLaws.{bad-product, bad-coefficient, by-key}
+use Rattle.terms.proofs.ValidSetLaws.{bad-key, bad-coefficient, by-key}
+use Rattle.operators.proofs.RealValidLaws.{validHamiltonians}
 use Rattle.operators.proofs.pauli_hamiltonian.good_term.Statement.{statement}
 use Rattle.operators.proofs.pauli_hamiltonian.good_term.Tie as tie
 
@@ -23,7 +24,7 @@ is-valid-requires c κs = search needs
 returns : tie.Need-returns
 returns c =
     let b = c .before .before .before .before in
-    bad-product (b .args .t1) (b .args .i) _ (whole b) (b .pre .0) (b .pre .1) (sym (c .before .is-valid .ensures) ∙ not-true _ (c .if1 .taken))
+    bad-key validHamiltonians (b .args .t1) (b .args .i) _ (whole b) (b .pre .0) (b .pre .1) (sym (c .before .is-valid .ensures) ∙ not-true _ (c .if1 .taken))
 
 good-coefficient-requires : tie.Need-good-coefficient-requires
 good-coefficient-requires c κs = search needs
@@ -31,7 +32,7 @@ good-coefficient-requires c κs = search needs
 returns-2 : tie.Need-returns-2
 returns-2 c =
     let b = c .before .before .before .before .before .before in
-    bad-coefficient (b .args .t1) (b .args .i) _ (whole b) (b .pre .0) (b .pre .1) (sym (c .before .good-coefficient .ensures) ∙ not-true _ (c .if2 .taken))
+    bad-coefficient validHamiltonians (b .args .t1) (b .args .i) _ (whole b) (b .pre .0) (b .pre .1) (sym (c .before .good-coefficient .ensures) ∙ not-true _ (c .if2 .taken))
 
 add-find-from : tie.Need-add-find-from
 add-find-from c = search needs
@@ -44,7 +45,7 @@ returns-3 c =
     let b = c .before .before .before .before .before .before .before in
     let v = sym (c .before .before .before .before .is-valid .ensures) ∙ not-false _ (c .before .before .before .if1 .left) in
     let g = sym (c .before .before .good-coefficient .ensures) ∙ not-false _ (c .before .if2 .left) in
-    by-key (b .args .t1) (b .args .i) _ (whole b) (b .pre .0) (b .pre .1) v g (c .find-from .result) (c .find-from .ensures)
+    by-key validHamiltonians (b .args .t1) (b .args .i) _ (whole b) (b .pre .0) (b .pre .1) v g (c .find-from .result) (c .find-from .ensures)
 
 pub good-term-spec : {M : Type 1} → statement M
 good-term-spec =

@@ -7,14 +7,15 @@ use Rattle.terms.proofs.SettingLaws.{Held}
 use Rattle.terms.specs.Keyed.{firstAt}
 use Rattle.terms.specs.Setting.{keyed}
 use Rattle.operators.specs.Reals.{realTerms, blank, heldBy}
-use Rattle.operators.proofs.RealSetLaws.{termSets, held-own}
+use Rattle.terms.proofs.FilledLaws.{held-own}
+use Rattle.operators.proofs.RealSetLaws.{realSets}
 use Rattle.terms.proofs.WriteLaws.{puts-struck, puts-replaced, puts-free, puts-full, puts-appended}
 use Rattle.operators.proofs.pauli_hamiltonian.put.Statement.{statement}
 use Rattle.operators.proofs.pauli_hamiltonian.put.Tie as tie
 
 -- the set holds its own terms
 own : (c : tie.Start) → Held blank (c .args .s .count) (c .args .s .terms)
-own c = held-own (c .args .s) (simp length-map at (c .good .0 .1 .1 .1 .0 .1 .0 .1)) (c .pre)
+own c = held-own realSets (c .args .s) (simp length-map at (c .good .0 .1 .1 .1 .0 .1 .0 .1)) (c .pre)
 
 -- the search answered the place of the first term with the key
 place : (c : tie.After-find-from) → c .find-from .result ≡ firstAt (keyed realTerms (c .before .args .key)) (heldBy (c .before .args .s))
@@ -31,14 +32,14 @@ returns c =
     let f = c .before .before .before in
     let a = f .before .args in
     let z = c .before .before .if1 .taken in
-    puts-struck realTerms termSets (a .key) (a .value) (a .s .count) (a .s .terms) (own (f .before)) (f .find-from .result) (place f) (omega arith) z (c .without .result) (c .without .ensures)
+    puts-struck realTerms realSets (a .key) (a .value) (a .s .count) (a .s .terms) (own (f .before)) (f .find-from .result) (place f) (omega arith) z (c .without .result) (c .without .ensures)
 
 returns-2 : tie.Need-returns-2
 returns-2 c =
     let f = c .before .before in
     let a = f .before .args in
     let z = c .before .if1 .taken in
-    puts-free realTerms termSets (a .key) (a .value) (a .s .count) (a .s .terms) (own (f .before)) (f .find-from .result) (place f) (omega arith) z
+    puts-free realTerms realSets (a .key) (a .value) (a .s .count) (a .s .terms) (own (f .before)) (f .find-from .result) (place f) (omega arith) z
 
 mul-t11 : tie.Need-mul-t11
 mul-t11 c = omega (arith, own (c .before .before .before))
@@ -51,14 +52,14 @@ returns-3 c =
     let f = c .before .before in
     let a = f .before .args in
     let z = c .before .if1 .left in
-    puts-replaced realTerms termSets (a .key) (a .value) (a .s .count) (a .s .terms) (own (f .before)) (f .find-from .result) (place f) (omega arith) z
+    puts-replaced realTerms realSets (a .key) (a .value) (a .s .count) (a .s .terms) (own (f .before)) (f .find-from .result) (place f) (omega arith) z
 
 returns-4 : tie.Need-returns-4
 returns-4 c =
     let f = c .before .before .before in
     let a = f .before .args in
     let z = c .before .before .if1 .left in
-    puts-full realTerms termSets (a .key) (a .value) (a .s .count) (a .s .terms) (own (f .before)) (f .find-from .result) (place f) (omega arith) z (omega arith)
+    puts-full realTerms realSets (a .key) (a .value) (a .s .count) (a .s .terms) (own (f .before)) (f .find-from .result) (place f) (omega arith) z (omega arith)
 
 mul-t16 : tie.Need-mul-t16
 mul-t16 c = search needs
@@ -74,7 +75,7 @@ returns-5 c =
     let f = c .before .before .before in
     let a = f .before .args in
     let z = c .before .before .if1 .left in
-    puts-appended realTerms termSets (a .key) (a .value) (a .s .count) (a .s .terms) (own (f .before)) (f .find-from .result) (place f) (omega arith) z (omega arith)
+    puts-appended realTerms realSets (a .key) (a .value) (a .s .count) (a .s .terms) (own (f .before)) (f .find-from .result) (place f) (omega arith) z (omega arith)
 
 pub put-spec : {M : Type 1} → statement M
 put-spec =

@@ -8,7 +8,8 @@ use Rattle.terms.proofs.SettingLaws.{Held}
 use Rattle.operators.specs.Complexes.{blank}
 use Rattle.operators.specs.declared.term_set.Term.{Term}
 use Rattle.terms.proofs.PlaceLaws.{Closing, closing-none, closing-more, closing-done, closing-count}
-use Rattle.operators.proofs.SetLaws.{held-own, filled-by}
+use Rattle.terms.proofs.FilledLaws.{filled-by, held-own}
+use Rattle.operators.proofs.SetLaws.{termSets}
 use Rattle.operators.proofs.term_set.without.Statement.{statement}
 use Rattle.operators.proofs.term_set.without.Tie as tie
 
@@ -23,7 +24,7 @@ whole : (c : tie.Start Inv-loop μ-loop) → length (c .args .s .terms) ≡ 64
 whole c = simp length-map at (c .good .0 .1 .1 .1 .0 .1 .0 .1)
 
 own : (c : tie.Start Inv-loop μ-loop) → Held blank (c .args .s .count) (c .args .s .terms)
-own c = held-own (c .args .s) (whole c) (c .pre .1)
+own c = held-own termSets (c .args .s) (whole c) (c .pre .1)
 
 loop-holds : tie.Need-loop-holds Inv-loop μ-loop
 loop-holds c = closing-none (whole c) (own c .few) (c .pre .0)
@@ -71,7 +72,7 @@ returns : tie.Need-returns Inv-loop μ-loop
 returns c =
     let l = c .before .before in
     let last = ap (λ (t : Term). set (l .loop .r .terms) (l .loop .i) t) (c .blank-term .ensures) in
-    filled-by _ _ (closing-count (l .loop .inv)) (last ∙ closing-done blank (own (l .before)) (l .loop .inv) (omega arith))
+    filled-by termSets _ _ (closing-count (l .loop .inv)) (last ∙ closing-done blank (own (l .before)) (l .loop .inv) (omega arith))
 
 pub without-spec : {M : Type 1} → statement M
 without-spec =

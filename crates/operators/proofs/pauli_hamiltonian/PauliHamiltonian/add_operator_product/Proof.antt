@@ -10,7 +10,7 @@ use Rattle.products.specs.Record.{valid}
 use Rattle.terms.specs.Setting.{added}
 use Rattle.operators.specs.Reals.{realTerms, heldBy, validSet}
 use Rattle.operators.specs.RealAnswers.{addReal}
-use Rattle.operators.proofs.RealSetLaws.{termSets}
+use Rattle.operators.proofs.RealSetLaws.{realSets}
 use Rattle.operators.proofs.RealValidLaws.{valid-count, valid-own}
 use Rattle.terms.proofs.WriteLaws.{puts-written}
 use Rattle.operators.proofs.pauli_hamiltonian.PauliHamiltonian.add_operator_product.Statement.{statement}
@@ -105,7 +105,7 @@ returns-6 c =
     let room = sym (p .put .ensures .0) ∙ not-false _ (r .if4 .left) in
     let ok = sym (e .before .part-in-range2 .ensures) ∙ not-false _ (e .if5 .left) in
     let a = k .before .before .before .before .before .args in
-    let after = puts-written realTerms termSets (a .key .items) (sumAt m) (a .self .count) (a .self .terms) (p .put .ensures) (not-false _ (r .if4 .left)) in
+    let after = puts-written realTerms realSets (a .key .items) (sumAt m) (a .self .count) (a .self .terms) (p .put .ensures) (not-false _ (r .if4 .left)) in
     rw (set-valid (k .before .before), key-valid k, value-in-range v, is-sum m, room, ok) (λ j. (done, after j))
 
 pub add-operator-product-spec : {M : Type 1} → statement M

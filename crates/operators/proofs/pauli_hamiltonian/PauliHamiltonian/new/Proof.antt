@@ -4,7 +4,8 @@ use mathlib.Core.List.{[]}
 use mathlib.Core.Path.{refl, ap}
 use lib.ListN.{replicate}
 use Rattle.operators.specs.declared.pauli_hamiltonian.RealTerm.{RealTerm}
-use Rattle.operators.proofs.RealSetLaws.{filled-by}
+use Rattle.terms.proofs.FilledLaws.{filled-by}
+use Rattle.operators.proofs.RealSetLaws.{realSets}
 use Rattle.operators.proofs.pauli_hamiltonian.PauliHamiltonian.new.Statement.{statement}
 use Rattle.operators.proofs.pauli_hamiltonian.PauliHamiltonian.new.Tie as tie
 
@@ -12,7 +13,7 @@ blank-term-requires : tie.Need-blank-term-requires
 blank-term-requires c κs = search needs
 
 returns : tie.Need-returns
-returns c = filled-by _ [] refl (ap (λ (t : RealTerm). replicate 64 t) (c .blank-term .ensures))
+returns c = filled-by realSets _ [] refl (ap (λ (t : RealTerm). replicate 64 t) (c .blank-term .ensures))
 
 pub new-spec : {M : Type 1} → statement M
 new-spec = tie.close (tie.spec blank-term-requires returns)

@@ -8,7 +8,7 @@ use Rattle.products.specs.Record.{valid}
 use Rattle.terms.specs.Setting.{hasRoom}
 use Rattle.operators.specs.Reals.{realTerms, heldBy, validSet}
 use Rattle.operators.specs.RealAnswers.{setReal}
-use Rattle.operators.proofs.RealSetLaws.{termSets}
+use Rattle.operators.proofs.RealSetLaws.{realSets}
 use Rattle.operators.proofs.RealValidLaws.{valid-count, valid-own}
 use Rattle.terms.proofs.WriteLaws.{puts-written}
 use Rattle.operators.proofs.pauli_hamiltonian.PauliHamiltonian.set.Statement.{statement}
@@ -77,7 +77,7 @@ returns-5 c =
     let v = p .before in
     let k = v .before .before in
     let a = k .before .before .before .before .before .args in
-    let after = puts-written realTerms termSets (a .key .items) (a .value) (a .self .count) (a .self .terms) (p .put .ensures) (not-false _ (r .if4 .left)) in
+    let after = puts-written realTerms realSets (a .key .items) (a .value) (a .self .count) (a .self .terms) (p .put .ensures) (not-false _ (r .if4 .left)) in
     rw (set-valid (k .before .before), key-valid k, value-in-range v, room r) (λ j. (c .before .was .ensures j, after j))
 
 pub set-spec : {M : Type 1} → statement M
