@@ -5,7 +5,7 @@ pub mod EntryLaws
 pub mod SortLaws
 pub mod RunLaws
 pub mod PartLaws
-pub mod SummedLaws
+pub mod NeighbourLaws
 pub mod ArrayLaws
 pub mod DeliveryLaws
 pub mod OpenLaws
