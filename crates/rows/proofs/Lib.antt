@@ -11,3 +11,5 @@ pub mod DeliveryLaws
 pub mod OpenLaws
 pub mod RowCases
 pub mod CallLaws
+pub mod HalfLaws
+pub mod ExactLaws
