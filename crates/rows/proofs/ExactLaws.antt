@@ -4,11 +4,11 @@ use Prim.Native.Nat.{ℕ, zero, suc, _+_, _*_, _^_, _≤_, _<_}
 use native.Mathlib.Nat.{not-suc-le-zero, le-of-suc-le-suc, eq-or-lt-of-le}
 use native.Mathlib.Omega.{arith}
 use mathlib.Core.Logic.{⊎-elim}
-use mathlib.Core.Path.{_≡_, refl, sym, ap, ap₂, _∙_, subst}
+use mathlib.Core.Path.{_≡_, refl, sym, ap, _∙_, subst}
 use mathlib.Core.Bool.{Bool, true, false, _&&_, cond}
 use mathlib.Core.List.{List, [], _∷_, _++_}
 use lib.Dec.{leb}
-use lib.IntN.{ℤ, natAbs, _+ℤ_}
+use lib.IntN.{ℤ, natAbs}
 use lib.ListN.{length, getD, take}
 use borrow.Author.Tests.{le-leb, lt-leb}
 use Rattle.refusal.specs.Refusals.{Said, gives, refuses}
@@ -157,16 +157,17 @@ answer-is : (l : List (ℕ × G)) {t s : Bool} → leb (length l) mostEntries �
 unfolding exactAnswer
 answer-is l p q = rw (p, q)
 
-pub taken-answer : (l : List (ℕ × G)) → length l ≤ mostEntries → allSmall l ≡ true → exactAnswer l ≡ gives (exactRowOf l)
+taken-answer : (l : List (ℕ × G)) → length l ≤ mostEntries → allSmall l ≡ true → exactAnswer l ≡ gives (exactRowOf l)
 taken-answer l h s = answer-is l (le-leb (length l) mostEntries h) s
 
--- small contributions, at most 320 of them: the row is delivered
-pub exact-delivered : (l : List (ℕ × G)) → length l ≤ mostEntries → allSmall l ≡ true → {r : Said ℕ} {a a′ : List ℕ} {b b′ c c′ : List ℤ}
-    → ExactCall (exactAnswer l) r a a′ b b′ c c′ → ExactDelivered (exactRowOf l) r a a′ b b′ c c′
+-- small contributions, at most 320 of them, in three arrays: their row is delivered
+pub exact-delivered : (cs : List ℕ) (xs ys : List ℤ) (n : ℕ) → n ≤ mostEntries → {l : List (ℕ × G)} → exactEntries cs xs ys n ≡ l → allSmall l ≡ true
+    → {r : Said ℕ} {a a′ : List ℕ} {b b′ c c′ : List ℤ} → ExactCall (exactAnswer (exactEntries cs xs ys n)) r a a′ b b′ c c′ → ExactDelivered (exactRowOf l) r a a′ b b′ c c′
 unfolding countOf after
-exact-delivered l h s {r} {a} {a′} {b} {b′} {c} {c′} d =
-    let e = subst (λ (x : Said (List (ℕ × G))). ExactCall x r a a′ b b′ c c′) (taken-answer l h s) d in
-    record { answer = e .answer; columns = e .columns; reals = e .reals; imaginaries = e .imaginaries }
+exact-delivered cs xs ys n h {l} e s {r} {a} {a′} {b} {b′} {c} {c′} d =
+    let few : length l ≤ mostEntries = omega (arith, length-entriesIn wholeParts cs xs ys n, ap length e) in
+    let x = subst (λ (x : Said (List (ℕ × G))). ExactCall x r a a′ b b′ c c′) (ap exactAnswer e ∙ taken-answer l few s) d in
+    record { answer = x .answer; columns = x .columns; reals = x .reals; imaginaries = x .imaginaries }
 
 -- the first n entries of three arrays
 module _ (cs : List ℕ) (xs ys : List ℤ) (n : ℕ) where

@@ -6,7 +6,7 @@ use native.Mathlib.Omega.{arith}
 use mathlib.Core.Path.{_≡_, refl, sym, ap, ap₂, _∙_}
 use mathlib.Core.Bool.{Bool, true, false, _&&_, cond, true≢false}
 use lib.Dec.{leb, ltb, eqb, leb·suc-suc}
-use lib.IntN.{ℤ, pos, negsuc, negℤ, natAbs, subℕ, _+ℤ_, _*ℤ_, +ℤ-idl, +ℤ-idr, zero-*ℤ, sucℤ-*ℤ, negℤ-negℤ, pos-ne-negsuc}
+use lib.IntN.{ℤ, pos, negsuc, negℤ, natAbs, subℕ, _+ℤ_, _*ℤ_, +ℤ-idl, zero-*ℤ, sucℤ-*ℤ, negℤ-negℤ, pos-ne-negsuc}
 use lib.Signed.{mag, leZ, ltZ}
 use mir.Syntax.{w64}
 use mir.Val.{toZ, ofZ, SFits}

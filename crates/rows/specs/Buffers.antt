@@ -1,9 +1,9 @@
 -- Contributions as three arrays of numbers, and the delivery of a row into three lent buffers: over any numbers of two parts, and in f64.
 use mathlib.Core.Path.{_≡_}
 use Prim.Native.Nat.{ℕ, zero, suc, _≤_, _<_}
-use mathlib.Core.Bool.{Bool, not, _&&_, cond}
+use mathlib.Core.Bool.{Bool, _&&_, cond}
 use mathlib.Core.List.{List, [], _∷_, _++_, map}
-use lib.Dec.{leb, ltb}
+use lib.Dec.{leb}
 use lib.ListN.{length, drop, getD}
 use lib.Ieee.{Float, nan}
 use Rattle.refusal.specs.Refusals.{Said, gives, refuses, number, siteOf}

@@ -2,7 +2,7 @@
 -- Document 01, `Rows` and `Numbers of the no`.
 use mathlib.Core.Path.{_≡_}
 use Prim.Native.Nat.{ℕ, _-_}
-use mathlib.Core.Bool.{Bool, cond}
+use mathlib.Core.Bool.{cond}
 use mathlib.Core.List.{List, [], _∷_, map}
 use lib.Dec.{leb, ltb}
 use lib.ListN.{length}

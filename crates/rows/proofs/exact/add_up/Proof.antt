@@ -1,12 +1,12 @@
 -- The invariant: `AddingIn`, as in the f64 `add_up`, and `Bounded`: after k contributions the sum begun is at most k times the largest.
-use Prim.Native.Nat.{_-_, _<_, _+_, _^_}
+use Prim.Native.Nat.{_-_, _<_}
 use mathlib.Core.Bool.{true, false}
-use mathlib.Core.Path.{_≡_, sym, ap, ap₂, _∙_}
+use mathlib.Core.Path.{_≡_, ap, _∙_}
 use mathlib.Core.Logic.{⊎-elim}
 use native.Mathlib.Omega.{arith}
 use borrow.Author.Needs.{needs}
 use lib.ListN.{getD}
-use Rattle.letters.specs.Gauss.{G, _⊕_}
+use Rattle.letters.specs.Gauss.{_⊕_}
 use Rattle.rows.specs.Buffers.{valueIn}
 use Rattle.rows.specs.ExactRows.{whole, wholeParts, isWholeZero, within, largestContribution}
 use Rattle.rows.proofs.RunLaws.{places-at}

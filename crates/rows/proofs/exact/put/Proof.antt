@@ -1,6 +1,6 @@
 -- A zero changes nothing; any other entry stands after those before it (`entriesIn-stored`).
 use mathlib.Core.Bool.{false}
-use mathlib.Core.Path.{_≡_, refl, sym, _∙_}
+use mathlib.Core.Path.{refl, sym, _∙_}
 use mathlib.Core.List.{append-nil}
 use native.Mathlib.Omega.{arith}
 use borrow.Author.Needs.{needs}

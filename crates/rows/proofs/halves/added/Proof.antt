@@ -1,5 +1,5 @@
 -- Two numbers whose sizes add up to less than 2^63 have their sum in 64 bits.
-use mathlib.Core.Path.{_≡_, ap₂, _∙_}
+use mathlib.Core.Path.{_≡_, ap₂}
 use native.Mathlib.Omega.{arith}
 use lib.IntN.{_+ℤ_}
 use mir.Syntax.{w64}

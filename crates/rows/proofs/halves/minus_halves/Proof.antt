@@ -3,7 +3,7 @@ use mathlib.Core.Path.{_≡_, ap, ap₂, _∙_}
 use native.Mathlib.Omega.{arith}
 use borrow.Author.Needs.{needs}
 use lib.IntN.{negℤ}
-use Rattle.letters.specs.Gauss.{G, _⊗_, i^}
+use Rattle.letters.specs.Gauss.{_⊗_, i^}
 use Rattle.rows.specs.ExactRows.{whole, taken}
 use Rattle.rows.proofs.HalfLaws.{read, read-small, unit-re, unit-im, minus-done}
 use Rattle.rows.proofs.halves.minus_halves.Statement.{statement}

@@ -1,9 +1,9 @@
 -- i^k times the coefficient, doubled in both parts (`scaled-done`).
-use mathlib.Core.Path.{_≡_, ap, ap₂, _∙_}
+use mathlib.Core.Path.{_≡_, ap₂, _∙_}
 use native.Mathlib.Omega.{arith}
 use borrow.Author.Needs.{needs}
 use lib.IntN.{_+ℤ_}
-use Rattle.letters.specs.Gauss.{G, _⊗_, i^}
+use Rattle.letters.specs.Gauss.{_⊗_, i^}
 use Rattle.rows.specs.ExactRows.{whole, taken}
 use Rattle.rows.proofs.HalfLaws.{read, read-small, unit-re, unit-im, scaled-done}
 use Rattle.rows.proofs.halves.scaled_halves.Statement.{statement}
