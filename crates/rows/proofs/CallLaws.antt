@@ -3,16 +3,14 @@
 use mathlib.Core.Path.{_≡_, refl}
 use mathlib.Core.List.{List}
 use Prim.Native.Nat.{ℕ}
-use lib.Ieee.{Float}
 use Rattle.refusal.specs.Refusals.{Said, gives, refuses}
-use Rattle.complex.specs.declared.Complex.{Complex}
-use Rattle.rows.specs.Buffers.{Delivered}
-use Rattle.rows.specs.Calls.{countOf, after, RowCall}
+use Rattle.rows.specs.Buffers.{TwoParts, DeliveredIn}
+use Rattle.rows.specs.Calls.{countOf, after, RowCallIn}
 
-pub call-delivered : {l : List (ℕ × Complex)} {r : Said ℕ} {a a′ : List ℕ} {b b′ c c′ : List Float} → Delivered l r a a′ b b′ c c′ → RowCall (gives l) r a a′ b b′ c c′
+pub call-delivered : {N X : Type 0} {P : TwoParts N X} {l : List (ℕ × N)} {r : Said ℕ} {a a′ : List ℕ} {b b′ c c′ : List X} → DeliveredIn P l r a a′ b b′ c c′ → RowCallIn P (gives l) r a a′ b b′ c c′
 unfolding countOf after
 call-delivered d = record { answer = d .answer; columns = d .columns; reals = d .reals; imaginaries = d .imaginaries }
 
-pub call-refused : (k : ℕ) (s : List ℕ) (a : List ℕ) (b c : List Float) → RowCall (refuses k s) (refuses k s) a a b b c c
+pub call-refused : {N X : Type 0} {P : TwoParts N X} (k : ℕ) (s : List ℕ) (a : List ℕ) (b c : List X) → RowCallIn P (refuses k s) (refuses k s) a a b b c c
 unfolding countOf after
 call-refused k s a b c = record { answer = refl; columns = refl; reals = refl; imaginaries = refl }

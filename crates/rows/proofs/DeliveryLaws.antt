@@ -8,12 +8,10 @@ use mathlib.Core.Bool.{true, false, and-false}
 use mathlib.Core.List.{List, [], _∷_, _++_, map, map-append}
 use lib.ListN.{length, getD, set, take, drop, length-set}
 use lib.Seq.{drop-cons, set-at, append-snoc, take-suc, length-take-le}
-use lib.Ieee.{Float, nan}
 use borrow.Author.Tests.{le-leb, lt-leb}
 use Rattle.refusal.specs.Refusals.{Said, gives, refuses}
-use Rattle.complex.specs.declared.Complex.{Complex}
-use Rattle.rows.specs.Buffers.{Long, entryAt, entries, roomFor, Delivered, Answered}
-use Rattle.rows.proofs.ArrayLaws.{length-entries}
+use Rattle.rows.specs.Buffers.{TwoParts, Long, entryIn, entriesIn, roomFor, DeliveredIn, AnsweredIn}
+use Rattle.rows.proofs.ArrayLaws.{Faithful, length-entriesIn}
 
 module _ {A : Type 0} where
   -- ---- the loop that copies the first n elements of s over those of d
@@ -53,41 +51,42 @@ module _ {A : Type 0} where
 -- ---- one array of the entries
 
 -- a part of every entry, read from its own array
-parts : {X : Type 0} (f : ℕ × Complex → X) (cs : List ℕ) (xs ys : List Float) (l : List X) (z : X) (n : ℕ) → n ≤ length l → ((i : ℕ) → f (entryAt cs xs ys i) ≡ getD l i z)
-    → map f (entries cs xs ys n) ≡ take n l
-unfolding entries
-parts f cs xs ys l z zero h e = refl
-parts f cs xs ys l z (suc n) h e =
-    rw (map-append f (entries cs xs ys n) (entryAt cs xs ys n ∷ []), parts f cs xs ys l z n (omega arith) e, e n) (sym (take-suc l n z h))
+parts : {N X Y : Type 0} (P : TwoParts N X) (f : ℕ × N → Y) (cs : List ℕ) (xs ys : List X) (l : List Y) (z : Y) (n : ℕ) → n ≤ length l → ((i : ℕ) → f (entryIn P cs xs ys i) ≡ getD l i z)
+    → map f (entriesIn P cs xs ys n) ≡ take n l
+unfolding entriesIn
+parts P f cs xs ys l z zero h e = refl
+parts P f cs xs ys l z (suc n) h e =
+    rw (map-append f (entriesIn P cs xs ys n) (entryIn P cs xs ys n ∷ []), parts P f cs xs ys l z n (omega arith) e, e n) (sym (take-suc l n z h))
 
 -- ---- what a call answers
 
-too-short : (l : List (ℕ × Complex)) (a : List ℕ) (b c : List Float) → roomFor (length l) a b c ≡ false → Delivered l (refuses 10 []) a a b b c c
+too-short : {N X : Type 0} {P : TwoParts N X} (l : List (ℕ × N)) (a : List ℕ) (b c : List X) → roomFor (length l) a b c ≡ false → DeliveredIn P l (refuses 10 []) a a b b c c
 too-short l a b c e = record { answer = rw e; columns = rw e; reals = rw e; imaginaries = rw e }
 
 -- a buffer that is too short, each of the three
-module _ (cs : List ℕ) (xs ys : List Float) (n : ℕ) (a : List ℕ) (b c : List Float) where
-  pub short-columns : length a < n → Delivered (entries cs xs ys n) (refuses 10 []) a a b b c c
-  short-columns h = too-short (entries cs xs ys n) a b c (rw (length-entries cs xs ys n, lt-leb n (length a) h))
+module _ {N X : Type 0} (P : TwoParts N X) (cs : List ℕ) (xs ys : List X) (n : ℕ) (a : List ℕ) (b c : List X) where
+  pub short-columns : length a < n → DeliveredIn P (entriesIn P cs xs ys n) (refuses 10 []) a a b b c c
+  short-columns h = too-short (entriesIn P cs xs ys n) a b c (rw (length-entriesIn P cs xs ys n, lt-leb n (length a) h))
 
-  pub short-reals : length b < n → Delivered (entries cs xs ys n) (refuses 10 []) a a b b c c
-  short-reals h = too-short (entries cs xs ys n) a b c (rw (length-entries cs xs ys n, lt-leb n (length b) h, and-false))
+  pub short-reals : length b < n → DeliveredIn P (entriesIn P cs xs ys n) (refuses 10 []) a a b b c c
+  short-reals h = too-short (entriesIn P cs xs ys n) a b c (rw (length-entriesIn P cs xs ys n, lt-leb n (length b) h, and-false))
 
-  pub short-imaginaries : length c < n → Delivered (entries cs xs ys n) (refuses 10 []) a a b b c c
-  short-imaginaries h = too-short (entries cs xs ys n) a b c (rw (length-entries cs xs ys n, lt-leb n (length c) h, and-false, and-false))
+  pub short-imaginaries : length c < n → DeliveredIn P (entriesIn P cs xs ys n) (refuses 10 []) a a b b c c
+  short-imaginaries h = too-short (entriesIn P cs xs ys n) a b c (rw (length-entriesIn P cs xs ys n, lt-leb n (length c) h, and-false, and-false))
 
 -- three copies of n entries, where there is room for them
-pub has-room : (cs : List ℕ) (xs ys : List Float) (n : ℕ) → Long cs xs ys → n ≤ 320 → (a a′ : List ℕ) (b b′ c c′ : List Float) → n ≤ length a → n ≤ length b → n ≤ length c
-    → a′ ≡ take n cs ++ drop n a → b′ ≡ take n xs ++ drop n b → c′ ≡ take n ys ++ drop n c → Delivered (entries cs xs ys n) (gives n) a a′ b b′ c c′
-has-room cs xs ys n long few a a′ b b′ c c′ ha hb hc ea eb ec =
-    let l = entries cs xs ys n in
-    let q : length l ≡ n = length-entries cs xs ys n in
+pub has-room : {N X : Type 0} {P : TwoParts N X} → Faithful P → (cs : List ℕ) (xs ys : List X) (n : ℕ) → Long cs xs ys → n ≤ 320 → (a a′ : List ℕ) (b b′ c c′ : List X)
+    → n ≤ length a → n ≤ length b → n ≤ length c
+    → a′ ≡ take n cs ++ drop n a → b′ ≡ take n xs ++ drop n b → c′ ≡ take n ys ++ drop n c → DeliveredIn P (entriesIn P cs xs ys n) (gives n) a a′ b b′ c c′
+has-room {N} {X} {P} f cs xs ys n long few a a′ b b′ c c′ ha hb hc ea eb ec =
+    let l = entriesIn P cs xs ys n in
+    let q : length l ≡ n = length-entriesIn P cs xs ys n in
     let lc = long .columns in
     let lx = long .reals in
     let ly = long .imaginaries in
-    let pc : map (λ (e : ℕ × Complex). e .0) l ≡ take n cs = parts (λ (e : ℕ × Complex). e .0) cs xs ys cs 0 n (omega arith) (λ i. refl) in
-    let px : map (λ (e : ℕ × Complex). e .1 .re) l ≡ take n xs = parts (λ (e : ℕ × Complex). e .1 .re) cs xs ys xs nan n (omega arith) (λ i. refl) in
-    let py : map (λ (e : ℕ × Complex). e .1 .im) l ≡ take n ys = parts (λ (e : ℕ × Complex). e .1 .im) cs xs ys ys nan n (omega arith) (λ i. refl) in
+    let pc : map (λ (e : ℕ × N). e .0) l ≡ take n cs = parts P (λ (e : ℕ × N). e .0) cs xs ys cs 0 n (omega arith) (λ i. refl) in
+    let px : map (λ (e : ℕ × N). P .re (e .1)) l ≡ take n xs = parts P (λ (e : ℕ × N). P .re (e .1)) cs xs ys xs (P .beyond) n (omega arith) (λ i. f .real _ _) in
+    let py : map (λ (e : ℕ × N). P .im (e .1)) l ≡ take n ys = parts P (λ (e : ℕ × N). P .im (e .1)) cs xs ys ys (P .beyond) n (omega arith) (λ i. f .imaginary _ _) in
     let r : roomFor (length l) a b c ≡ true = rw (q, le-leb n (length a) ha, le-leb n (length b) hb, le-leb n (length c) hc) in
     record {
       answer = rw (r, q);
@@ -96,12 +95,13 @@ has-room cs xs ys n long few a a′ b b′ c c′ ha hb hc ea eb ec =
       imaginaries = rw (r, py, length-take-le n ys (omega arith)) ec;
     }
 
--- past the limit, with the buffers as they were
-pub too-many : (n : ℕ) (l : List (ℕ × Complex)) (a : List ℕ) (b c : List Float) → 320 < n → Answered n l (refuses 0 []) a a b b c c
-too-many n l a b c h =
-    record { within = λ k. absurd (let z : ⊥ = omega arith in z); over = λ k. record { answer = refl; columns = refl; reals = refl; imaginaries = refl } }
+module _ {N X : Type 0} {P : TwoParts N X} where
+  -- past the limit, with the buffers as they were
+  pub too-many : (n : ℕ) (l : List (ℕ × N)) (a : List ℕ) (b c : List X) → 320 < n → AnsweredIn P n l (refuses 0 []) a a b b c c
+  too-many n l a b c h =
+      record { within = λ k. absurd (let z : ⊥ = omega arith in z); over = λ k. record { answer = refl; columns = refl; reals = refl; imaginaries = refl } }
 
--- within the limit
-pub few-enough : {n : ℕ} {l m : List (ℕ × Complex)} {r : Said ℕ} {a a′ : List ℕ} {b b′ c c′ : List Float} → n ≤ 320 → m ≡ l → Delivered m r a a′ b b′ c c′ → Answered n l r a a′ b b′ c c′
-few-enough {n} {l} {m} {r} {a} {a′} {b} {b′} {c} {c′} h e d =
-    record { within = λ k. rw (sym e) d; over = λ k. absurd (let z : ⊥ = omega arith in z) }
+  -- within the limit
+  pub few-enough : {n : ℕ} {l m : List (ℕ × N)} {r : Said ℕ} {a a′ : List ℕ} {b b′ c c′ : List X} → n ≤ 320 → m ≡ l → DeliveredIn P m r a a′ b b′ c c′ → AnsweredIn P n l r a a′ b b′ c c′
+  few-enough {n} {l} {m} {r} {a} {a′} {b} {b′} {c} {c′} h e d =
+      record { within = λ k. rw (sym e) d; over = λ k. absurd (let z : ⊥ = omega arith in z) }

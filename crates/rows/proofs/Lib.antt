@@ -5,9 +5,11 @@ pub mod EntryLaws
 pub mod SortLaws
 pub mod RunLaws
 pub mod PartLaws
-pub mod SummedLaws
+pub mod NeighbourLaws
 pub mod ArrayLaws
 pub mod DeliveryLaws
 pub mod OpenLaws
 pub mod RowCases
 pub mod CallLaws
+pub mod HalfLaws
+pub mod ExactLaws

@@ -2,7 +2,6 @@
 -- Assumes nothing.
 use Prim.Native.Nat.{ℕ, zero, suc, _+_, _≤_, _<_}
 use native.Mathlib.Nat.{add-zero}
-use native.Mathlib.Numerals.{add-one}
 use native.Mathlib.Omega.{arith}
 use mathlib.Core.Path.{_≡_, refl, sym, ap, ap₂, _∙_}
 use mathlib.Core.Bool.{Bool, true, false, cond}
@@ -13,11 +12,11 @@ use lib.Ieee.{Float, nan}
 use Rattle.complex.specs.Complex.{sumOf, isZero}
 use Rattle.complex.specs.declared.Complex.{Complex}
 use Rattle.rows.specs.Placing.{rowOf, nonzero}
-use Rattle.rows.specs.Sorting.{merged, summed, upTo}
-use Rattle.rows.specs.Buffers.{Long, valueAt, entryAt, entries, kept, floatRow, openRow}
+use Rattle.rows.specs.Sorting.{merged, neighboursAdded, upTo}
+use Rattle.rows.specs.Buffers.{floatParts, Long, valueAt, entryAt, entries, keptBy, kept, floatRow, openRow}
 use Rattle.rows.proofs.SortLaws.{map-merged}
-use Rattle.rows.proofs.SummedLaws.{columnOf, Climbing, climbing-lower, climbing-row, placed-row}
-use Rattle.rows.proofs.ArrayLaws.{entries-none, entries-stored, entries-map, length-entries, long-stored}
+use Rattle.rows.proofs.NeighbourLaws.{columnOf, Climbing, climbing-lower, climbing-row, placed-row}
+use Rattle.rows.proofs.ArrayLaws.{entries-none, entries-stored, entriesIn-map, entriesIn-more, length-entriesIn, long-stored}
 
 -- ---- the loop that appends
 
@@ -29,10 +28,6 @@ pub record Appending (cs : List ℕ) (xs ys : List Float) (q : ℕ) (ds : List �
 pub appending-none : (cs : List ℕ) (xs ys : List Float) (q : ℕ) (ds : List ℕ) (us vs : List Float) (p : ℕ) → Long ds us vs → Appending cs xs ys q ds us vs p ds us vs 0
 appending-none cs xs ys q ds us vs p l =
     record { within = omega arith; shape = rw (add-zero p, entries-none cs xs ys) (sym (append-nil (entries ds us vs p))); long = l }
-
-entries-more : (cs : List ℕ) (xs ys : List Float) (i : ℕ) → entries cs xs ys (i + 1) ≡ entries cs xs ys i ++ entryAt cs xs ys i ∷ []
-unfolding entries
-entries-more cs xs ys i = rw (add-one i)
 
 pub appending-more : {cs : List ℕ} {xs ys : List Float} {q : ℕ} {ds : List ℕ} {us vs : List Float} {p : ℕ} {ds′ : List ℕ} {us′ vs′ : List Float} {i : ℕ}
     → Appending cs xs ys q ds us vs p ds′ us′ vs′ i → i < q → p + q ≤ 320
@@ -46,7 +41,7 @@ appending-more {cs} {xs} {ys} {q} {ds} {us} {vs} {p} {ds′} {us′} {vs′} {i}
           (entries-stored ds′ us′ vs′ (p + i) (getD cs i 0) (valueAt xs ys i) (a .long) (omega arith)
           ∙ ap (λ (l : List (ℕ × Complex)). l ++ entryAt cs xs ys i ∷ []) (a .shape)
           ∙ append-assoc (entries ds us vs p) (entries cs xs ys i) (entryAt cs xs ys i ∷ [])
-          ∙ ap (λ (l : List (ℕ × Complex)). entries ds us vs p ++ l) (sym (entries-more cs xs ys i)));
+          ∙ ap (λ (l : List (ℕ × Complex)). entries ds us vs p ++ l) (sym (entriesIn-more floatParts cs xs ys i)));
       long = long-stored ds′ us′ vs′ (p + i) (getD cs i 0) (getD xs i nan) (getD ys i nan) (a .long);
     }
 
@@ -85,7 +80,7 @@ climbing-nonzero b (x ∷ l) r =
     go false p q = q
 
 climbing-float : (zeros : Bool) (l : List (ℕ × Complex)) → Climbing 0 (floatRow zeros l)
-unfolding floatRow
+unfolding floatRow keptBy
 climbing-float true l = climbing-row sumOf l
 climbing-float false l = climbing-nonzero 0 (rowOf sumOf l) (climbing-row sumOf l)
 
@@ -103,17 +98,17 @@ pub open-row : (cs : List ℕ) (xs ys : List Float) (p q : ℕ) (places : List �
     → (ds : List ℕ) (us vs : List Float) (es : List ℕ) (ws zs : List Float)
     → entries ds us vs p ≡ floatRow false commutator → entries es ws zs q ≡ floatRow true noise
     → entries cs xs ys (p + q) ≡ entries ds us vs p ++ entries es ws zs q
-    → kept true (summed sumOf (map (entryAt cs xs ys) (take (p + q) places))) ≡ openRow (floatRow false commutator) (floatRow true noise)
-unfolding openRow kept
+    → kept true (neighboursAdded sumOf (map (entryAt cs xs ys) (take (p + q) places))) ≡ openRow (floatRow false commutator) (floatRow true noise)
+unfolding openRow keptBy
 open-row cs xs ys p q places commutator noise together ds us vs es ws zs left right both =
     let E = entryAt cs xs ys in
-    let all : map E (upTo (p + q)) ≡ floatRow false commutator ++ floatRow true noise = entries-map cs xs ys (p + q) ∙ both ∙ ap₂ (λ (l r : List (ℕ × Complex)). l ++ r) left right in
-    let long : length (floatRow false commutator) ≡ p = ap length (sym left) ∙ length-entries ds us vs p in
+    let all : map E (upTo (p + q)) ≡ floatRow false commutator ++ floatRow true noise = entriesIn-map floatParts cs xs ys (p + q) ∙ both ∙ ap₂ (λ (l r : List (ℕ × Complex)). l ++ r) left right in
+    let long : length (floatRow false commutator) ≡ p = ap length (sym left) ∙ length-entriesIn floatParts ds us vs p in
     let first : map E (take p (upTo (p + q))) ≡ floatRow false commutator =
     map-take E p (upTo (p + q)) ∙ ap (take p) all ∙ take-at (floatRow false commutator) (floatRow true noise) p long in
     let second : map E (drop p (upTo (p + q))) ≡ floatRow true noise =
     map-drop E p (upTo (p + q)) ∙ ap (drop p) all ∙ drop-at (floatRow false commutator) (floatRow true noise) p long in
-    ap (λ (l : List ℕ). summed sumOf (map E l)) together
-    ∙ ap (summed sumOf) (map-merged columnOf E (take p (upTo (p + q))) (drop p (upTo (p + q))))
-    ∙ ap₂ (λ (l r : List (ℕ × Complex)). summed sumOf (merged columnOf l r)) first second
+    ap (λ (l : List ℕ). neighboursAdded sumOf (map E l)) together
+    ∙ ap (neighboursAdded sumOf) (map-merged columnOf E (take p (upTo (p + q))) (drop p (upTo (p + q))))
+    ∙ ap₂ (λ (l r : List (ℕ × Complex)). neighboursAdded sumOf (merged columnOf l r)) first second
     ∙ sym (placed-row sumOf (floatRow false commutator) (floatRow true noise) (climbing-float false commutator) (climbing-float true noise))

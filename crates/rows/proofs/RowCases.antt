@@ -3,9 +3,10 @@
 use Prim.Native.Nat.{ℕ, _/_, _%_}
 use mathlib.Core.Path.{_≡_, refl}
 use mathlib.Core.Bool.{true, false}
-use mathlib.Core.List.{List, [], _∷_}
+use mathlib.Core.List.{List, [], _∷_, _++_}
 use lib.IntN.{pos, negsuc}
 use lib.Ieee.{Float, fin, ofBits, add, sub, mul, neg, eq}
+use Rattle.refusal.specs.Refusals.{gives, refuses}
 use Rattle.complex.specs.Complex.{sumOf, productOf, unitOf, unitOfI, isZero}
 use Rattle.complex.specs.declared.Complex.{Complex}
 use Rattle.letters.specs.Tests.{firstFrom}
@@ -18,6 +19,7 @@ use Rattle.rows.specs.Equation.{𝟚}
 use Rattle.rows.specs.Placing.{placed, placeAll, rowOf, nonzero}
 use Rattle.rows.specs.Numbers.{Numbers, minusHalfUnit, halves, floats}
 use Rattle.rows.specs.Contributions.{commutatorTerms, noiseTerms}
+use Rattle.rows.specs.ExactRows.{exactRowOf, within, allSmall, taken, exactAnswer}
 
 -- X, Y or iY, and Z on the spin
 abbrev X : ℕ → ℕ
@@ -67,6 +69,36 @@ three-z-none = refl
 one-y : commutatorRow halves Y (record { re = pos 1; im = pos 0 }) 0 ≡ (1, record { re = negsuc 1; im = pos 0 }) ∷ (2, record { re = negsuc 1; im = pos 0 }) ∷ []
 unfolding rowOf placeAll placed nonzero commutatorTerms columnOf rowPower total bit cell firstFrom eqG eqℤ pauli two-by-two i^ _⊗_ _⊕_ 𝟘 𝟙 −𝟙 𝟚 i⁺ i⁻
 one-y = refl
+
+-- ---- exact rows
+
+-- (Z0, Z0), 1: the zero of row 0 is left out
+z-z-exact : exactRowOf (noiseTerms halves 1 0 0 Z Z (record { re = pos 1; im = pos 0 })) ≡ []
+unfolding exactRowOf rowOf placeAll placed nonzero noiseTerms columnOf rowPower total bit cell firstFrom eqG eqℤ decoherence two-by-two i^ _⊗_ _⊕_ 𝟘 𝟙 −𝟙 𝟚 i⁺ i⁻
+z-z-exact = refl
+
+-- 3 Z0 with (X0, X0), 2: row 1 has -4 - 12 i in column 1 and 4 in column 2
+worked-row : exactRowOf (commutatorTerms halves 1 0 1 Z (record { re = pos 3; im = pos 0 }) ++ noiseTerms halves 1 0 1 X X (record { re = pos 2; im = pos 0 })) ≡ (1, record { re = negsuc 3; im = negsuc 11 }) ∷ (2, record { re = pos 4; im = pos 0 }) ∷ []
+unfolding exactRowOf rowOf placeAll placed nonzero commutatorTerms noiseTerms columnOf rowPower total bit cell firstFrom eqG eqℤ pauli decoherence two-by-two i^ _⊗_ _⊕_ 𝟘 𝟙 −𝟙 𝟚 i⁺ i⁻
+worked-row = refl
+
+-- 2^50 is taken, and 2^50 + 1 is not
+largest-taken : taken (record { re = pos 1125899906842624; im = negsuc 1125899906842623 }) ≡ record { re = pos 1125899906842624; im = negsuc 1125899906842623 }
+unfolding taken within
+largest-taken = refl
+
+too-large : taken (record { re = pos 1; im = negsuc 1125899906842624 }) ≡ 𝟘
+unfolding taken within
+too-large = refl
+
+-- a contribution of 2^52 is added up, and one of 2^52 + 1 is refused
+largest-added : exactAnswer ((5, record { re = pos 4503599627370496; im = pos 0 }) ∷ []) ≡ gives ((5, record { re = pos 4503599627370496; im = pos 0 }) ∷ [])
+unfolding exactAnswer allSmall within exactRowOf rowOf placeAll placed nonzero eqG eqℤ 𝟘
+largest-added = refl
+
+large-refused : exactAnswer ((5, record { re = pos 4503599627370497; im = pos 0 }) ∷ []) ≡ refuses 0 []
+unfolding exactAnswer allSmall within
+large-refused = refl
 
 -- ---- in f64
 

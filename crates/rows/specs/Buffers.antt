@@ -1,9 +1,9 @@
--- Contributions as three arrays of numbers, and the delivery of a row into three lent buffers.
+-- Contributions as three arrays of numbers, and the delivery of a row into three lent buffers: over any numbers of two parts, and in f64.
 use mathlib.Core.Path.{_≡_}
 use Prim.Native.Nat.{ℕ, zero, suc, _≤_, _<_}
-use mathlib.Core.Bool.{Bool, not, _&&_, cond}
+use mathlib.Core.Bool.{Bool, _&&_, cond}
 use mathlib.Core.List.{List, [], _∷_, _++_, map}
-use lib.Dec.{leb, ltb}
+use lib.Dec.{leb}
 use lib.ListN.{length, drop, getD}
 use lib.Ieee.{Float, nan}
 use Rattle.refusal.specs.Refusals.{Said, gives, refuses, number, siteOf}
@@ -16,32 +16,56 @@ use Rattle.rows.specs.declared.Delivery.{Delivery}
 abbrev pub mostEntries : ℕ
 mostEntries = 320
 
--- the number at a place of two arrays
-abbrev pub valueAt : List Float → List Float → ℕ → Complex
-valueAt xs ys i = record { re = getD xs i nan; im = getD ys i nan }
+-- numbers N of a real and an imaginary part of type X; `beyond` is what a read past an array's end gives
+pub record TwoParts (N X : Type 0) : Type 0 where
+  pub re : N → X
+  pub im : N → X
+  pub both : X → X → N
+  pub beyond : X
 
--- the entry at a place of three arrays
-abbrev pub entryAt : List ℕ → List Float → List Float → ℕ → ℕ × Complex
-entryAt cs xs ys i = (getD cs i 0, valueAt xs ys i)
-
--- the first n entries of three arrays
-unfoldable pub entries : List ℕ → List Float → List Float → ℕ → List (ℕ × Complex)
-entries cs xs ys zero = []
-entries cs xs ys (suc n) = entries cs xs ys n ++ (entryAt cs xs ys n ∷ [])
+-- f64
+abbrev pub floatParts : TwoParts Complex Float
+floatParts = record { re = λ z. z .re; im = λ z. z .im; both = λ x y. record { re = x; im = y }; beyond = nan }
 
 -- three arrays of 320 elements
-pub record Long (cs : List ℕ) (xs ys : List Float) : Type 0 where
+pub record Long {X : Type 0} (cs : List ℕ) (xs ys : List X) : Type 0 where
   pub columns : length cs ≡ mostEntries
   pub reals : length xs ≡ mostEntries
   pub imaginaries : length ys ≡ mostEntries
 
+module _ {N X : Type 0} (P : TwoParts N X) where
+  -- the number at a place of two arrays
+  abbrev pub valueIn : List X → List X → ℕ → N
+  valueIn xs ys i = P .both (getD xs i (P .beyond)) (getD ys i (P .beyond))
+
+  -- the entry at a place of three arrays
+  abbrev pub entryIn : List ℕ → List X → List X → ℕ → ℕ × N
+  entryIn cs xs ys i = (getD cs i 0, valueIn xs ys i)
+
+  -- the first n entries of three arrays
+  unfoldable pub entriesIn : List ℕ → List X → List X → ℕ → List (ℕ × N)
+  entriesIn cs xs ys zero = []
+  entriesIn cs xs ys (suc n) = entriesIn cs xs ys n ++ (entryIn cs xs ys n ∷ [])
+
+abbrev pub valueAt : List Float → List Float → ℕ → Complex
+valueAt xs ys i = valueIn floatParts xs ys i
+
+abbrev pub entryAt : List ℕ → List Float → List Float → ℕ → ℕ × Complex
+entryAt cs xs ys i = entryIn floatParts cs xs ys i
+
+abbrev pub entries : List ℕ → List Float → List Float → ℕ → List (ℕ × Complex)
+entries cs xs ys n = entriesIn floatParts cs xs ys n
+
 -- entries with zero sums, or without
-unfoldable pub kept : Bool → List (ℕ × Complex) → List (ℕ × Complex)
-kept zeros l = cond zeros l (nonzero isZero l)
+unfoldable pub keptBy : {N : Type 0} → (N → Bool) → Bool → List (ℕ × N) → List (ℕ × N)
+keptBy isZero zeros l = cond zeros l (nonzero isZero l)
+
+abbrev pub kept : Bool → List (ℕ × Complex) → List (ℕ × Complex)
+kept zeros l = keptBy isZero zeros l
 
 -- a row of f64 contributions: zero sums kept, or left out
 unfoldable pub floatRow : Bool → List (ℕ × Complex) → List (ℕ × Complex)
-floatRow zeros l = cond zeros (rowOf sumOf l) (nonzero isZero (rowOf sumOf l))
+floatRow zeros l = kept zeros (rowOf sumOf l)
 
 -- "where both have one, noise is added to the commutator entry, and a zero there is kept"
 unfoldable pub openRow : List (ℕ × Complex) → List (ℕ × Complex) → List (ℕ × Complex)
@@ -49,7 +73,7 @@ openRow commutator noise = placeAll sumOf noise commutator
 
 -- ---- delivery: "places past the count keep what they had"; 10 "a lent buffer shorter than the row's entries"
 
-abbrev pub roomFor : ℕ → List ℕ → List Float → List Float → Bool
+abbrev pub roomFor : {X : Type 0} → ℕ → List ℕ → List X → List X → Bool
 roomFor n a b c = leb n (length a) && (leb n (length b) && leb n (length c))
 
 -- s in front of what was there, where there is room
@@ -60,21 +84,29 @@ abbrev pub saidDelivery : Delivery → Said ℕ
 saidDelivery (Delivery.Count n) = gives n
 saidDelivery (Delivery.Refused why) = refuses (number why) (siteOf why)
 
--- what a call that delivers the row l answers, and what the three buffers hold after it
-pub record Delivered (l : List (ℕ × Complex)) (r : Said ℕ) (a a′ : List ℕ) (b b′ c c′ : List Float) : Type 0 where
-  pub answer : r ≡ cond (roomFor (length l) a b c) (gives (length l)) (refuses 10 [])
-  pub columns : a′ ≡ laid (roomFor (length l) a b c) (map (λ e. e .0) l) a
-  pub reals : b′ ≡ laid (roomFor (length l) a b c) (map (λ e. e .1 .re) l) b
-  pub imaginaries : c′ ≡ laid (roomFor (length l) a b c) (map (λ e. e .1 .im) l) c
-
--- what a call answers that is refused for a count of contributions past the limit, with the buffers as they were
-pub record Untouched (r : Said ℕ) (a a′ : List ℕ) (b b′ c c′ : List Float) : Type 0 where
+-- what a call answers that is refused for what it is handed, with the buffers as they were
+pub record Untouched {X : Type 0} (r : Said ℕ) (a a′ : List ℕ) (b b′ c c′ : List X) : Type 0 where
   pub answer : r ≡ refuses 0 []
   pub columns : a′ ≡ a
   pub reals : b′ ≡ b
   pub imaginaries : c′ ≡ c
 
--- what a call answers that is handed n contributions whose row is l
-pub record Answered (n : ℕ) (l : List (ℕ × Complex)) (r : Said ℕ) (a a′ : List ℕ) (b b′ c c′ : List Float) : Type 0 where
-  pub within : n ≤ mostEntries → Delivered l r a a′ b b′ c c′
-  pub over : mostEntries < n → Untouched r a a′ b b′ c c′
+module _ {N X : Type 0} (P : TwoParts N X) where
+  -- what a call that delivers the row l answers, and what the three buffers hold after it
+  pub record DeliveredIn (l : List (ℕ × N)) (r : Said ℕ) (a a′ : List ℕ) (b b′ c c′ : List X) : Type 0 where
+    pub answer : r ≡ cond (roomFor (length l) a b c) (gives (length l)) (refuses 10 [])
+    pub columns : a′ ≡ laid (roomFor (length l) a b c) (map (λ e. e .0) l) a
+    pub reals : b′ ≡ laid (roomFor (length l) a b c) (map (λ e. P .re (e .1)) l) b
+    pub imaginaries : c′ ≡ laid (roomFor (length l) a b c) (map (λ e. P .im (e .1)) l) c
+
+  -- what a call answers that is handed n contributions whose row is l
+  pub record AnsweredIn (n : ℕ) (l : List (ℕ × N)) (r : Said ℕ) (a a′ : List ℕ) (b b′ c c′ : List X) : Type 0 where
+    pub within : n ≤ mostEntries → DeliveredIn l r a a′ b b′ c c′
+    pub over : mostEntries < n → Untouched r a a′ b b′ c c′
+
+-- the same in f64
+abbrev pub Delivered : List (ℕ × Complex) → Said ℕ → (a a′ : List ℕ) (b b′ c c′ : List Float) → Type 0
+Delivered l r a a′ b b′ c c′ = DeliveredIn floatParts l r a a′ b b′ c c′
+
+abbrev pub Answered : ℕ → List (ℕ × Complex) → Said ℕ → (a a′ : List ℕ) (b b′ c c′ : List Float) → Type 0
+Answered n l r a a′ b b′ c c′ = AnsweredIn floatParts n l r a a′ b b′ c c′

@@ -2,7 +2,7 @@
 -- Document 01, `Rows` and `Numbers of the no`.
 use mathlib.Core.Path.{_≡_}
 use Prim.Native.Nat.{ℕ, _-_}
-use mathlib.Core.Bool.{Bool, cond}
+use mathlib.Core.Bool.{cond}
 use mathlib.Core.List.{List, [], _∷_, map}
 use lib.Dec.{leb, ltb}
 use lib.ListN.{length}
@@ -12,7 +12,7 @@ use Rattle.complex.specs.declared.Complex.{Complex}
 use Rattle.products.specs.Record.{reach}
 use Rattle.products.specs.Answers.{mostSpins}
 use Rattle.products.specs.declared.items.Items.{Items}
-use Rattle.rows.specs.Buffers.{roomFor, laid}
+use Rattle.rows.specs.Buffers.{TwoParts, floatParts, roomFor, laid}
 
 -- the highest site of the first product that has a site at n or above, as a list of one
 unfoldable pub outside : ℕ → List Items → List ℕ
@@ -20,12 +20,12 @@ outside n [] = []
 outside n (p ∷ ps) = let rest = outside n ps in cond (ltb n (reach p)) ((reach p - 1) ∷ []) rest
 
 -- 8: "a term has a site at n or above: first such term, its highest site"
-unfoldable pub unlessOutside : List ℕ → List (ℕ × Complex) → Said (List (ℕ × Complex))
+unfoldable pub unlessOutside : {N : Type 0} → List ℕ → List (ℕ × N) → Said (List (ℕ × N))
 unlessOutside [] row = gives row
 unlessOutside (s ∷ ss) row = refuses 8 (s ∷ [])
 
 -- a row r of `rows` rows over n spins, of terms with the products ps
-unfoldable pub checkedRow : ℕ → ℕ → ℕ → List Items → List (ℕ × Complex) → Said (List (ℕ × Complex))
+unfoldable pub checkedRow : {N : Type 0} → ℕ → ℕ → ℕ → List Items → List (ℕ × N) → Said (List (ℕ × N))
 checkedRow n rows r ps row =
     cond (ltb mostSpins n) (refuses 7 [])
     (cond (leb rows r) (refuses 9 [])
@@ -33,18 +33,22 @@ checkedRow n rows r ps row =
 
 -- ---- what a call answers, and what a buffer holds after it
 
-unfoldable pub countOf : Said (List (ℕ × Complex)) → List ℕ → List Float → List Float → Said ℕ
+unfoldable pub countOf : {N X : Type 0} → Said (List (ℕ × N)) → List ℕ → List X → List X → Said ℕ
 countOf (gives l) a b c = cond (roomFor (length l) a b c) (gives (length l)) (refuses 10 [])
 countOf (refuses k s) a b c = refuses k s
 
 -- f is the part of an entry that the buffer old takes
-unfoldable pub after : {X : Type 0} → (ℕ × Complex → X) → Said (List (ℕ × Complex)) → List ℕ → List Float → List Float → List X → List X
+unfoldable pub after : {N X Y : Type 0} → (ℕ × N → Y) → Said (List (ℕ × N)) → List ℕ → List X → List X → List Y → List Y
 after f (gives l) a b c old = laid (roomFor (length l) a b c) (map f l) old
 after f (refuses k s) a b c old = old
 
 -- x is the row to deliver, or the refusal; r what is said; a to a′, b to b′ and c to c′ the buffers
-pub record RowCall (x : Said (List (ℕ × Complex))) (r : Said ℕ) (a a′ : List ℕ) (b b′ c c′ : List Float) : Type 0 where
+pub record RowCallIn {N X : Type 0} (P : TwoParts N X) (x : Said (List (ℕ × N))) (r : Said ℕ) (a a′ : List ℕ) (b b′ c c′ : List X) : Type 0 where
   pub answer : r ≡ countOf x a b c
   pub columns : a′ ≡ after (λ e. e .0) x a b c a
-  pub reals : b′ ≡ after (λ e. e .1 .re) x a b c b
-  pub imaginaries : c′ ≡ after (λ e. e .1 .im) x a b c c
+  pub reals : b′ ≡ after (λ e. P .re (e .1)) x a b c b
+  pub imaginaries : c′ ≡ after (λ e. P .im (e .1)) x a b c c
+
+-- in f64
+abbrev pub RowCall : Said (List (ℕ × Complex)) → Said ℕ → (a a′ : List ℕ) (b b′ c c′ : List Float) → Type 0
+RowCall x r a a′ b b′ c c′ = RowCallIn floatParts x r a a′ b b′ c c′

@@ -7,3 +7,4 @@ pub mod Sums
 pub mod Sorting
 pub mod Buffers
 pub mod Calls
+pub mod ExactRows

@@ -4,10 +4,13 @@ ghost use mathlib.Core.List.{_++_};
 ghost use mathlib.Core.Bool.{true, false};
 ghost use Prim.Native.Nat.{_+_, _≤_};
 ghost use lib.ListN.{length, take, drop};
+ghost use Rattle.rows.specs.ExactRows.{exactEntries, exactAnswer, ExactCall};
 ghost use Rattle.rows.specs.Buffers.{Long, Delivered, Answered, saidDelivery, entries, floatRow, openRow};
 
 mod both;
 pub mod entries;
+mod exact;
+pub mod halves;
 mod sort;
 mod sums;
 
@@ -135,4 +138,29 @@ pub fn deliver_both(
         &mut c,
     );
     handed_over(&a, &b, &c, count, out_columns, out_re, out_im)
+}
+
+// The exact row of the first n contributions. One with a part over 2^52 in size is refused, since 320 of them could pass 64 bits.
+pub fn deliver_exact(
+    columns: &[u64; 320],
+    re: &[i64; 320],
+    im: &[i64; 320],
+    n: usize,
+    out_columns: &mut [u64],
+    out_re: &mut [i64],
+    out_im: &mut [i64],
+) -> Delivery
+    ensures { λ r. ⌜ ExactCall (exactAnswer (exactEntries (now (columns .entry)) (now (re .entry)) (now (im .entry)) n)) (saidDelivery r) (now («out_columns» .entry)) (now («out_columns» .exit)) (now («out_re» .entry)) (now («out_re» .exit)) (now («out_im» .entry)) (now («out_im» .exit)) ⌝ }
+{
+    if n > 320 {
+        return Delivery::Refused(Refusal::Malformed);
+    }
+    if !exact::all_small(re, im, n) {
+        return Delivery::Refused(Refusal::Malformed);
+    }
+    let mut a = [0u64; 320];
+    let mut b = [0i64; 320];
+    let mut c = [0i64; 320];
+    let count = exact::collected(columns, re, im, n, &mut a, &mut b, &mut c);
+    exact::handed_over(&a, &b, &c, count, out_columns, out_re, out_im)
 }

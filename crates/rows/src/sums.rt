@@ -4,7 +4,7 @@ ghost use mathlib.Core.List.{[], _∷_, _++_, map};
 ghost use Prim.Native.Nat.{_+_, _≤_, _<_};
 ghost use lib.ListN.{take};
 ghost use Rattle.complex.specs.Complex.{sumOf};
-ghost use Rattle.rows.specs.Sorting.{Places, summed};
+ghost use Rattle.rows.specs.Sorting.{Places, neighboursAdded};
 ghost use Rattle.rows.specs.Buffers.{Long, valueAt, entryAt, entries, kept, floatRow};
 use crate::sort::sorted_places;
 use complex::Complex;
@@ -57,7 +57,7 @@ pub(crate) fn add_up(
     out_im: &mut [f64; 320],
 ) -> usize
     requires { ⌜ (n ≤ 320) × Places (now places) × Long (now «out_columns») (now «out_re») (now «out_im») ⌝ }
-    ensures { λ r. ⌜ (r ≤ n) × (entries (now («out_columns» .exit)) (now («out_re» .exit)) (now («out_im» .exit)) r ≡ kept zeros (summed sumOf (map (entryAt (now (columns .entry)) (now (re .entry)) (now (im .entry))) (take n (now (places .entry)))))) × Long (now («out_columns» .exit)) (now («out_re» .exit)) (now («out_im» .exit)) ⌝ }
+    ensures { λ r. ⌜ (r ≤ n) × (entries (now («out_columns» .exit)) (now («out_re» .exit)) (now («out_im» .exit)) r ≡ kept zeros (neighboursAdded sumOf (map (entryAt (now (columns .entry)) (now (re .entry)) (now (im .entry))) (take n (now (places .entry)))))) × Long (now («out_columns» .exit)) (now («out_re» .exit)) (now («out_im» .exit)) ⌝ }
 {
     if n == 0 {
         return 0;

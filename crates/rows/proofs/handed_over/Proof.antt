@@ -1,17 +1,19 @@
 -- Each refusal is a buffer shorter than n; with room the three copies are what `Delivered` asks (`has-room`).
 use borrow.Author.Needs.{needs}
+use Rattle.rows.specs.Buffers.{floatParts}
+use Rattle.rows.proofs.ArrayLaws.{floats-faithful}
 use Rattle.rows.proofs.DeliveryLaws.{short-columns, short-reals, short-imaginaries, has-room}
 use Rattle.rows.proofs.handed_over.Statement.{statement}
 use Rattle.rows.proofs.handed_over.Tie as tie
 
 returns : tie.Need-returns
-returns c = short-columns _ _ _ _ _ _ _ (c .if1 .taken)
+returns c = short-columns floatParts _ _ _ _ _ _ _ (c .if1 .taken)
 
 returns-2 : tie.Need-returns-2
-returns-2 c = short-reals _ _ _ _ _ _ _ (c .if2 .taken)
+returns-2 c = short-reals floatParts _ _ _ _ _ _ _ (c .if2 .taken)
 
 returns-3 : tie.Need-returns-3
-returns-3 c = short-imaginaries _ _ _ _ _ _ _ (c .if3 .taken)
+returns-3 c = short-imaginaries floatParts _ _ _ _ _ _ _ (c .if3 .taken)
 
 put-columns-requires : tie.Need-put-columns-requires
 put-columns-requires c κs = search needs
@@ -35,7 +37,7 @@ returns-4 : tie.Need-returns-4
 returns-4 c =
     let room = c .before .before .before .before .before .before .before .before .before .before .before .before in
     let s = room .before .before .before .before .before .before in
-    has-room _ _ _ _ (s .pre .1) (s .pre .0) _ _ _ _ _ _ (room .before .before .if1 .left) (room .before .if2 .left) (room .if3 .left)
+    has-room floats-faithful _ _ _ _ (s .pre .1) (s .pre .0) _ _ _ _ _ _ (room .before .before .if1 .left) (room .before .if2 .left) (room .if3 .left)
     (c .before .before .before .before .before .before .before .before .before .before .put-columns .ensures)
     (c .before .before .before .before .before .before .put-parts .ensures)
     (c .before .before .put-parts2 .ensures)

@@ -9,7 +9,7 @@ use lib.Dec.{eqb}
 use lib.ListN.{length}
 use borrow.Author.Tests.{lt-ltb, le-ltb, eq-eqb, ne-eqb, eqb-true, eqb-false}
 use Rattle.rows.specs.Placing.{placed, placeAll, rowOf}
-use Rattle.rows.specs.Sorting.{inserted, sortedOnto, sorted, merged, summedFrom, summed}
+use Rattle.rows.specs.Sorting.{inserted, sortedOnto, sorted, merged, addedFrom, neighboursAdded}
 use Rattle.rows.proofs.SortLaws.{Rising, by-order, inserted-here, inserted-past, inserted-none, rising-inserted, length-sorted, sorted-rising, merged-sorted}
 
 -- the column of an entry
@@ -56,19 +56,19 @@ module _ {N : Type 0} (sum : N → N → N) where
   placed-none e = refl
 
   -- a neighbour of the same column is added
-  pub summed-same : (x y : ℕ × N) (ys : List (ℕ × N)) → y .0 ≡ x .0 → summedFrom sum x (y ∷ ys) ≡ summedFrom sum (x .0, sum (x .1) (y .1)) ys
-  unfolding summedFrom
-  summed-same x y ys h = rw (eq-eqb (y .0) (x .0) h)
+  pub added-same : (x y : ℕ × N) (ys : List (ℕ × N)) → y .0 ≡ x .0 → addedFrom sum x (y ∷ ys) ≡ addedFrom sum (x .0, sum (x .1) (y .1)) ys
+  unfolding addedFrom
+  added-same x y ys h = rw (eq-eqb (y .0) (x .0) h)
 
   -- one of another column begins a new sum
-  pub summed-next : (x y : ℕ × N) (ys : List (ℕ × N)) → (y .0 ≡ x .0 → ⊥) → summedFrom sum x (y ∷ ys) ≡ x ∷ summedFrom sum y ys
-  unfolding summedFrom
-  summed-next x y ys h = rw (ne-eqb (y .0) (x .0) h)
+  pub added-next : (x y : ℕ × N) (ys : List (ℕ × N)) → (y .0 ≡ x .0 → ⊥) → addedFrom sum x (y ∷ ys) ≡ x ∷ addedFrom sum y ys
+  unfolding addedFrom
+  added-next x y ys h = rw (ne-eqb (y .0) (x .0) h)
 
   -- the last sum
-  pub summed-last : (x : ℕ × N) → summedFrom sum x [] ≡ x ∷ []
-  unfolding summedFrom
-  summed-last x = refl
+  pub added-last : (x : ℕ × N) → addedFrom sum x [] ≡ x ∷ []
+  unfolding addedFrom
+  added-last x = refl
 
   -- a case of two numbers: equal, or the first is less
   by-step : (m n : ℕ) {P : Type 0} → m ≤ n → (m ≡ n → P) → (m < n → P) → P
@@ -77,68 +77,68 @@ module _ {N : Type 0} (sum : N → N → N) where
   -- ---- placing before, and among, what is added up
 
   -- below the first: in front
-  placed-first : (e x : ℕ × N) (l : List (ℕ × N)) → Rising columnOf (x .0) l → e .0 < x .0 → placed sum e (summedFrom sum x l) ≡ e ∷ summedFrom sum x l
-  placed-first e x [] r h = rw (summed-last x, placed-here e x [] h)
+  placed-first : (e x : ℕ × N) (l : List (ℕ × N)) → Rising columnOf (x .0) l → e .0 < x .0 → placed sum e (addedFrom sum x l) ≡ e ∷ addedFrom sum x l
+  placed-first e x [] r h = rw (added-last x, placed-here e x [] h)
   placed-first e x (y ∷ l) r h =
       let further = placed-first e (x .0, sum (x .1) (y .1)) l in
       by-step (x .0) (y .0) (r .0)
-      (λ q. let r′ = rw (sym q) at (r .1) in rw (summed-same x y l (sym q)) (further r′ h))
-      (λ k. rw (summed-next x y l (omega arith), placed-here e x (summedFrom sum y l) h))
+      (λ q. let r′ = rw (sym q) at (r .1) in rw (added-same x y l (sym q)) (further r′ h))
+      (λ k. rw (added-next x y l (omega arith), placed-here e x (addedFrom sum y l) h))
 
   -- at or after the first: as if it were inserted before the adding
-  placed-among : (e x : ℕ × N) (l : List (ℕ × N)) → Rising columnOf (x .0) l → x .0 ≤ e .0 → placed sum e (summedFrom sum x l) ≡ summedFrom sum x (inserted columnOf e l)
+  placed-among : (e x : ℕ × N) (l : List (ℕ × N)) → Rising columnOf (x .0) l → x .0 ≤ e .0 → placed sum e (addedFrom sum x l) ≡ addedFrom sum x (inserted columnOf e l)
   placed-among e x [] r h =
       by-step (x .0) (e .0) h
-      (λ q. rw (summed-last x, placed-same e x [] q, inserted-none columnOf e, summed-same x e [] (sym q), summed-last (x .0, sum (x .1) (e .1))))
-      (λ k. rw (summed-last x, placed-past e x [] k, placed-none e, inserted-none columnOf e, summed-next x e [] (omega arith), summed-last e))
+      (λ q. rw (added-last x, placed-same e x [] q, inserted-none columnOf e, added-same x e [] (sym q), added-last (x .0, sum (x .1) (e .1))))
+      (λ k. rw (added-last x, placed-past e x [] k, placed-none e, inserted-none columnOf e, added-next x e [] (omega arith), added-last e))
   placed-among e x (y ∷ l) r h =
       let onto = placed-among e (x .0, sum (x .1) (y .1)) l in
       let after = placed-among e y l in
       by-order (e .0) (y .0)
       (λ ey. by-step (x .0) (e .0) h
-      (λ q. rw (summed-next x y l (omega arith), placed-same e x (summedFrom sum y l) q, inserted-here columnOf e y l ey, summed-same x e (y ∷ l) (sym q), summed-next (x .0, sum (x .1) (e .1)) y l (omega arith)))
-      (λ k. rw (summed-next x y l (omega arith), placed-past e x (summedFrom sum y l) k, placed-first e y l (r .1) ey, inserted-here columnOf e y l ey, summed-next x e (y ∷ l) (omega arith), summed-next e y l (omega arith))))
+      (λ q. rw (added-next x y l (omega arith), placed-same e x (addedFrom sum y l) q, inserted-here columnOf e y l ey, added-same x e (y ∷ l) (sym q), added-next (x .0, sum (x .1) (e .1)) y l (omega arith)))
+      (λ k. rw (added-next x y l (omega arith), placed-past e x (addedFrom sum y l) k, placed-first e y l (r .1) ey, inserted-here columnOf e y l ey, added-next x e (y ∷ l) (omega arith), added-next e y l (omega arith))))
       (λ ye. by-step (x .0) (y .0) (r .0)
-      (λ q. let r′ = rw (sym q) at (r .1) in rw (summed-same x y l (sym q), inserted-past columnOf e y l ye, summed-same x y (inserted columnOf e l) (sym q)) (onto r′ h))
-      (λ k. rw (summed-next x y l (omega arith), placed-past e x (summedFrom sum y l) (omega arith), inserted-past columnOf e y l ye, summed-next x y (inserted columnOf e l) (omega arith), after (r .1) ye)))
+      (λ q. let r′ = rw (sym q) at (r .1) in rw (added-same x y l (sym q), inserted-past columnOf e y l ye, added-same x y (inserted columnOf e l) (sym q)) (onto r′ h))
+      (λ k. rw (added-next x y l (omega arith), placed-past e x (addedFrom sum y l) (omega arith), inserted-past columnOf e y l ye, added-next x y (inserted columnOf e l) (omega arith), after (r .1) ye)))
 
-  placed-summed : (e : ℕ × N) (l : List (ℕ × N)) → Rising columnOf 0 l → placed sum e (summed sum l) ≡ summed sum (inserted columnOf e l)
-  unfolding summed
-  placed-summed e [] r = rw (placed-none e, inserted-none columnOf e, summed-last e)
-  placed-summed e (x ∷ l) r =
+  placed-added : (e : ℕ × N) (l : List (ℕ × N)) → Rising columnOf 0 l → placed sum e (neighboursAdded sum l) ≡ neighboursAdded sum (inserted columnOf e l)
+  unfolding neighboursAdded
+  placed-added e [] r = rw (placed-none e, inserted-none columnOf e, added-last e)
+  placed-added e (x ∷ l) r =
       by-order (e .0) (x .0)
-      (λ h. rw (placed-first e x l (r .1) h, inserted-here columnOf e x l h, summed-next e x l (omega arith)))
+      (λ h. rw (placed-first e x l (r .1) h, inserted-here columnOf e x l h, added-next e x l (omega arith)))
       (λ h. rw (placed-among e x l (r .1) h, inserted-past columnOf e x l h))
 
-  placed-onto : (es s : List (ℕ × N)) → Rising columnOf 0 s → placeAll sum es (summed sum s) ≡ summed sum (sortedOnto columnOf es s)
+  placed-onto : (es s : List (ℕ × N)) → Rising columnOf 0 s → placeAll sum es (neighboursAdded sum s) ≡ neighboursAdded sum (sortedOnto columnOf es s)
   unfolding placeAll sortedOnto
   placed-onto [] s r = refl
   placed-onto (e ∷ es) s r =
-      ap (placeAll sum es) (placed-summed e s r) ∙ placed-onto es (inserted columnOf e s) (rising-inserted columnOf 0 e s (omega arith) r)
+      ap (placeAll sum es) (placed-added e s r) ∙ placed-onto es (inserted columnOf e s) (rising-inserted columnOf 0 e s (omega arith) r)
 
   -- the row of contributions is what their sorted list adds up to
-  pub summed-sorted : (l : List (ℕ × N)) → summed sum (sorted columnOf l) ≡ rowOf sum l
-  unfolding sorted summed rowOf
-  summed-sorted l = sym (placed-onto l [] tt)
+  pub added-sorted : (l : List (ℕ × N)) → neighboursAdded sum (sorted columnOf l) ≡ rowOf sum l
+  unfolding sorted neighboursAdded rowOf
+  added-sorted l = sym (placed-onto l [] tt)
 
   -- ---- how long a row is
 
-  length-from : (x : ℕ × N) (l : List (ℕ × N)) → length (summedFrom sum x l) ≤ suc (length l)
-  length-from x [] = rw (summed-last x) (omega arith)
+  length-from : (x : ℕ × N) (l : List (ℕ × N)) → length (addedFrom sum x l) ≤ suc (length l)
+  length-from x [] = rw (added-last x) (omega arith)
   length-from x (y ∷ l) =
       let onto = length-from (x .0, sum (x .1) (y .1)) l in
       let after = length-from y l in
-      by-test (eqb (y .0) (x .0)) (λ q. rw (summed-same x y l (eqb-true (y .0) (x .0) q)) (omega arith)) (λ q. rw (summed-next x y l (eqb-false (y .0) (x .0) q)) (omega arith))
+      by-test (eqb (y .0) (x .0)) (λ q. rw (added-same x y l (eqb-true (y .0) (x .0) q)) (omega arith)) (λ q. rw (added-next x y l (eqb-false (y .0) (x .0) q)) (omega arith))
 
   -- no longer than what is added up
-  pub length-summed : (l : List (ℕ × N)) → length (summed sum l) ≤ length l
-  unfolding summed
-  length-summed [] = omega arith
-  length-summed (x ∷ l) = length-from x l
+  pub length-added : (l : List (ℕ × N)) → length (neighboursAdded sum l) ≤ length l
+  unfolding neighboursAdded
+  length-added [] = omega arith
+  length-added (x ∷ l) = length-from x l
 
   -- no longer than the contributions
   pub length-row : (l : List (ℕ × N)) → length (rowOf sum l) ≤ length l
-  length-row l = rw (← summed-sorted l) (omega (arith, length-summed (sorted columnOf l), length-sorted columnOf l))
+  length-row l = rw (← added-sorted l) (omega (arith, length-added (sorted columnOf l), length-sorted columnOf l))
 
   -- ---- a row is strictly ascending
 
@@ -164,19 +164,19 @@ module _ {N : Type 0} (sum : N → N → N) where
 
   -- ---- a strictly ascending list is its own row
 
-  from-climbing : (x : ℕ × N) (l : List (ℕ × N)) → Climbing (suc (x .0)) l → summedFrom sum x l ≡ x ∷ l
-  from-climbing x [] r = summed-last x
+  from-climbing : (x : ℕ × N) (l : List (ℕ × N)) → Climbing (suc (x .0)) l → addedFrom sum x l ≡ x ∷ l
+  from-climbing x [] r = added-last x
   from-climbing x (y ∷ l) r =
       let k = r .0 in
-      summed-next x y l (omega arith) ∙ ap (λ (t : List (ℕ × N)). x ∷ t) (from-climbing y l (r .1))
+      added-next x y l (omega arith) ∙ ap (λ (t : List (ℕ × N)). x ∷ t) (from-climbing y l (r .1))
 
-  summed-climbing : (b : ℕ) (l : List (ℕ × N)) → Climbing b l → summed sum l ≡ l
-  unfolding summed
-  summed-climbing b [] r = refl
-  summed-climbing b (x ∷ l) r = from-climbing x l (r .1)
+  added-climbing : (b : ℕ) (l : List (ℕ × N)) → Climbing b l → neighboursAdded sum l ≡ l
+  unfolding neighboursAdded
+  added-climbing b [] r = refl
+  added-climbing b (x ∷ l) r = from-climbing x l (r .1)
 
   pub row-climbing : (l : List (ℕ × N)) → Climbing 0 l → rowOf sum l ≡ l
-  row-climbing l r = sym (summed-sorted l) ∙ ap (summed sum) (sorted-rising columnOf 0 l (climbing-rising 0 l r)) ∙ summed-climbing 0 l r
+  row-climbing l r = sym (added-sorted l) ∙ ap (neighboursAdded sum) (sorted-rising columnOf 0 l (climbing-rising 0 l r)) ∙ added-climbing 0 l r
 
   all-append : (a b l : List (ℕ × N)) → placeAll sum (a ++ b) l ≡ placeAll sum b (placeAll sum a l)
   unfolding placeAll
@@ -184,13 +184,13 @@ module _ {N : Type 0} (sum : N → N → N) where
   all-append (e ∷ a) b l = all-append a b (placed sum e l)
 
   -- the entries of a row placed into another: both merged and added up, the other's first
-  pub placed-row : (a b : List (ℕ × N)) → Climbing 0 a → Climbing 0 b → placeAll sum b a ≡ summed sum (merged columnOf a b)
+  pub placed-row : (a b : List (ℕ × N)) → Climbing 0 a → Climbing 0 b → placeAll sum b a ≡ neighboursAdded sum (merged columnOf a b)
   unfolding rowOf
   placed-row a b ra rb =
       let ia : sorted columnOf a ≡ a = sorted-rising columnOf 0 a (climbing-rising 0 a ra) in
       let ib : sorted columnOf b ≡ b = sorted-rising columnOf 0 b (climbing-rising 0 b rb) in
       ap (placeAll sum b) (sym (row-climbing a ra))
       ∙ sym (all-append a b [])
-      ∙ sym (summed-sorted (a ++ b))
-      ∙ ap (summed sum) (sym (merged-sorted columnOf a b))
+      ∙ sym (added-sorted (a ++ b))
+      ∙ ap (neighboursAdded sum) (sym (merged-sorted columnOf a b))
       ∙ rw (ia, ib)
