@@ -63,7 +63,7 @@ start-chain s e = record { terms = []; is = start-is s e }
 
 -- its set holds its own terms
 pub chain-own : (c : TermSetAnswer) → Chain c → c .set ≡ filled (heldBy (c .set))
-chain-own c s = stands-own termSets (c .outcome) (c .set) (stateAfter (s .terms)) (after-stands c (s .terms) (s .is))
+chain-own c s = stands-own termSets _ (c .set) (stateAfter (s .terms)) (after-stands c (s .terms) (s .is))
 
 -- and no more than the most terms
 chained-few : (l : List Term) → length l ≤ mostTerms → filled l .count ≤ mostTerms

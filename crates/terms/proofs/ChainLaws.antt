@@ -29,13 +29,13 @@ module _ {A R : Type 0} (T : Sets A R) where
   unfolding shown
   refused-stands why s e = λ j. (refuses (number why) (siteOf why), e j)
 
-  module _ (x : Outcome) (s : R) where
-    -- its set holds its own terms
-    pub stands-own : (o : Said (List A)) → Stands x s o → s ≡ T .filled (heldIn T s)
-    unfolding shown
-    stands-own (gives l) h = own-from T s l (ap (λ (z : Said Unit × R). z .1) h)
-    stands-own (refuses k m) h = own-from T s [] (ap (λ (z : Said Unit × R). z .1) h)
+  -- its set holds its own terms
+  pub stands-own : (w : Said Unit) (s : R) (o : Said (List A)) → (w, s) ≡ shown (T .filled) o → s ≡ T .filled (heldIn T s)
+  unfolding shown
+  stands-own w s (gives l) h = own-from T s l (ap (λ (z : Said Unit × R). z .1) h)
+  stands-own w s (refuses k m) h = own-from T s [] (ap (λ (z : Said Unit × R). z .1) h)
 
+  module _ (x : Outcome) (s : R) where
     -- where the outcome is done there are terms, and where it is not, its refusal
     pub stands-done : (o : Said (List A)) → Stands x s o → x ≡ Outcome.Done → o ≡ gives (heldIn T s)
     unfolding shown
@@ -99,4 +99,4 @@ module _ {K N R : Type 0} (S : Terms K N) (inRange : N → Bool) (T : Sets (S .T
       finished-out f = rw (stands-done T x s o h e) (finally-out (heldIn T s) f)
 
       pub finished-in : allInRange S inRange (heldIn T s) ≡ true → (done, s) ≡ ended S inRange (T .filled) back o
-      finished-in f = rw (stands-done T x s o h e) (finally-in s (heldIn T s) (stands-own T x s o h) f)
+      finished-in f = rw (stands-done T x s o h e) (finally-in s (heldIn T s) (stands-own T (said x) s o h) f)
