@@ -11,7 +11,7 @@ use Rattle.terms.specs.Keyed.{has, held, each, headOr}
 use Rattle.terms.specs.Setting.{keyed, coefficientAt, write}
 use Rattle.terms.specs.Gaussian.{gaussian, summed, weighted}
 use Rattle.terms.proofs.KeyedLaws.{each-head, each-tail, by-test}
-use Rattle.terms.proofs.SettingLaws.{different, write-keys}
+use Rattle.terms.proofs.SettingLaws.{different, alike-by, keys-write}
 use Rattle.terms.proofs.Totals.{weighted-write}
 use Rattle.superoperator.specs.Systems.{SameTerms, SoundTerms}
 
@@ -89,7 +89,7 @@ module _ {K : Type 0} (same : K → K → Bool) (itself : (k : K) → same k k �
   same-sums [] m dl dm e φ = sym (none-left m dm (λ k. sym (e k)) φ)
   same-sums (x ∷ xs) m dl dm e φ =
       ap (λ u. x .1 ⊗ φ (x .0) ⊕ u)
-      (same-sums xs rest (each-tail (different (gaussian K same)) x xs dl) (write-keys (gaussian K same) itself equal (λ k a. refl) (x .0) 𝟘 m dm) left φ)
+      (same-sums xs rest (each-tail (different (gaussian K same)) x xs dl) (keys-write (gaussian K same) (alike-by (gaussian K same) itself equal (λ k a. refl)) (x .0) 𝟘 m dm) left φ)
       ∙ taken φ
     where
       rest : List (K × G)
