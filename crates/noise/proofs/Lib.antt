@@ -4,5 +4,4 @@ pub mod ChainLaws
 pub mod FullLaws
 pub mod RemapLaws
 pub mod NoiseTheorems
-pub mod NoiseRowLaws
 pub mod NoiseValidAnswers
