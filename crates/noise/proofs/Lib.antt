@@ -3,5 +3,4 @@ pub mod ValidLaws
 pub mod FullLaws
 pub mod RemapLaws
 pub mod NoiseTheorems
-pub mod NoiseRowLaws
 pub mod NoiseValidAnswers

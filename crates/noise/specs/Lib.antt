@@ -2,4 +2,3 @@ pub mod Pairs
 pub mod Answers
 pub mod Chained
 pub mod Kinds
-pub mod NoiseRows

@@ -1,7 +1,6 @@
 // Noise sets: pairs of decoherence products with complex coefficients.
 mod chain;
 pub mod full;
-pub mod noise_row;
 pub mod noise_set;
 pub mod pauli_noise_operator;
 pub mod remap;

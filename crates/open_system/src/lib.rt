@@ -1,28 +1,34 @@
 // Open systems: a Hamiltonian with noise, and the rows of their superoperator.
 ghost use mathlib.Core.Path.{_≡_};
 ghost use mathlib.Core.Bool.{true, false};
-ghost use mathlib.Core.List.{[], _++_, map};
-ghost use Prim.Native.Nat.{_*_, _^_, _≤_, _<_};
+ghost use mathlib.Core.List.{[]};
+ghost use Prim.Native.Nat.{_*_, _^_};
+ghost use Rattle.refusal.specs.Refusals.{carried};
+ghost use Rattle.products.specs.Record.{valid};
+ghost use Rattle.terms.specs.Keyed.{each};
 ghost use Rattle.rows.specs.Buffers.{Delivered, saidDelivery, floatRow, openRow};
-ghost use Rattle.rows.specs.Calls.{RowCall, outside, checkedRow};
+ghost use Rattle.rows.specs.Calls.{RowCall, outside};
+ghost use Rattle.operators.specs.Complexes as complexes;
 ghost use Rattle.operators.specs.Reals as reals;
 ghost use Rattle.noise.specs.Pairs as pairs;
-ghost use Rattle.noise.specs.NoiseRows as noise_rows;
-ghost use Rattle.open_system.specs.OpenRows.{commutatorContributions, systemRow};
-
-mod contributions;
-mod outside;
-
-use contributions::write_commutator;
-use contributions::write_noise;
+ghost use Rattle.set_rows.specs.Accepted.{Accepted};
+ghost use Rattle.set_rows.specs.OperatorRows.{commutatorContributions};
+ghost use Rattle.set_rows.specs.NoiseRows.{noiseContributions};
+ghost use Rattle.open_system.specs.OpenRows.{itemsOf, systemRowOf, systemRow};
 use noise::noise_set::NoiseSet;
 use operators::pauli_hamiltonian::PauliHamiltonian;
-use outside::outside_site;
+use operators::pauli_hamiltonian::complex_terms;
+use operators::term_set::TermSet;
 use products::row::MOST_SPINS;
 use refusal::Carried;
 use refusal::Refusal;
 use rows::Delivery;
 use rows::deliver_both;
+use set_rows::contributions::write_commutator;
+use set_rows::contributions::write_noise;
+use set_rows::outside::of_noise;
+use set_rows::outside::of_operator;
+use set_rows::size_of;
 
 pub struct PauliOpenSystem {
     pub system: PauliHamiltonian,
@@ -43,17 +49,19 @@ impl PauliOpenSystem {
     }
 }
 
-// The count of the rows of a matrix over `spins` spins.
-fn size_of(spins: u32) -> u64
-    requires { ⌜ spins < 64 ⌝ }
-    ensures { λ r. ⌜ r ≡ 2 ^ spins ⌝ }
+// The first product with a site at the spin count or above, by its highest site: the Hamiltonian before the noise.
+fn outside_site(h: TermSet, n: NoiseSet, spins: u32) -> Carried
+    ensures { λ r. ⌜ carried r ≡ outside spins (itemsOf (complexes.heldBy h) (pairs.heldBy n)) ⌝ }
 {
-    1u64 << spins
+    match of_operator(h, spins) {
+        Carried::Site(site) => Carried::Site(site),
+        Carried::Nothing => of_noise(n, spins),
+    }
 }
 
 // The row of a system whose terms fit the spins.
 fn delivered(
-    h: PauliHamiltonian,
+    h: TermSet,
     n: NoiseSet,
     spins: u32,
     row: u64,
@@ -61,19 +69,17 @@ fn delivered(
     out_re: &mut [f64],
     out_im: &mut [f64],
 ) -> Delivery
-    requires { ⌜ (reals.validSet h ≡ true) × (pairs.validSet n ≡ true) × (outside spins (map (λ t. t .items) (reals.heldBy h) ++ noise_rows.itemsOf (pairs.heldBy n)) ≡ []) × (spins ≤ 31) × (row < 2 ^ spins * 2 ^ spins) ⌝ }
-    ensures { λ r. ⌜ Delivered (openRow (floatRow false (commutatorContributions spins row (reals.heldBy h))) (floatRow true (noise_rows.noiseContributions spins row (pairs.heldBy n)))) (saidDelivery r) (now («out_columns» .entry)) (now («out_columns» .exit)) (now («out_re» .entry)) (now («out_re» .exit)) (now («out_im» .entry)) (now («out_im» .exit)) ⌝ }
+    requires { ⌜ Accepted spins (2 ^ spins * 2 ^ spins) row (itemsOf (complexes.heldBy h) (pairs.heldBy n)) ⌝ }
+    ensures { λ r. ⌜ Delivered (openRow (floatRow false (commutatorContributions spins row (complexes.heldBy h))) (floatRow true (noiseContributions spins row (pairs.heldBy n)))) (saidDelivery r) (now («out_columns» .entry)) (now («out_columns» .exit)) (now («out_re» .entry)) (now («out_re» .exit)) (now («out_im» .entry)) (now («out_im» .exit)) ⌝ }
 {
     let mut c_columns = [0u64; 320];
     let mut c_re = [0.0f64; 320];
     let mut c_im = [0.0f64; 320];
-    write_commutator(h, spins, row, &mut c_columns, &mut c_re, &mut c_im);
+    let c_n = write_commutator(h, spins, row, &mut c_columns, &mut c_re, &mut c_im);
     let mut n_columns = [0u64; 320];
     let mut n_re = [0.0f64; 320];
     let mut n_im = [0.0f64; 320];
-    write_noise(n, spins, row, &mut n_columns, &mut n_re, &mut n_im);
-    let c_n = 2 * h.count;
-    let n_n = 3 * n.count;
+    let n_n = write_noise(n, spins, row, &mut n_columns, &mut n_re, &mut n_im);
     deliver_both(
         &c_columns,
         &c_re,
@@ -89,9 +95,9 @@ fn delivered(
     )
 }
 
-// The row of a valid system: 7, 9, 8, then the row.
+// The row of valid terms: 7, 9, 8, then the row.
 fn row_of(
-    h: PauliHamiltonian,
+    h: TermSet,
     n: NoiseSet,
     spins: u32,
     row: u64,
@@ -99,8 +105,8 @@ fn row_of(
     out_re: &mut [f64],
     out_im: &mut [f64],
 ) -> Delivery
-    requires { ⌜ (reals.validSet h ≡ true) × (pairs.validSet n ≡ true) ⌝ }
-    ensures { λ r. ⌜ RowCall (checkedRow spins (2 ^ spins * 2 ^ spins) row (map (λ t. t .items) (reals.heldBy h) ++ noise_rows.itemsOf (pairs.heldBy n)) (openRow (floatRow false (commutatorContributions spins row (reals.heldBy h))) (floatRow true (noise_rows.noiseContributions spins row (pairs.heldBy n))))) (saidDelivery r) (now («out_columns» .entry)) (now («out_columns» .exit)) (now («out_re» .entry)) (now («out_re» .exit)) (now («out_im» .entry)) (now («out_im» .exit)) ⌝ }
+    requires { ⌜ each (λ p ps. valid p) (itemsOf (complexes.heldBy h) (pairs.heldBy n)) ≡ true ⌝ }
+    ensures { λ r. ⌜ RowCall (systemRowOf spins row (complexes.heldBy h) (pairs.heldBy n)) (saidDelivery r) (now («out_columns» .entry)) (now («out_columns» .exit)) (now («out_re» .entry)) (now («out_re» .exit)) (now («out_im» .entry)) (now («out_im» .exit)) ⌝ }
 {
     if MOST_SPINS < spins {
         return Delivery::Refused(Refusal::TooManySpins);
@@ -133,5 +139,6 @@ pub fn row(
     if !noise::noise_set::is_valid(n) {
         return Delivery::Refused(Refusal::Malformed);
     }
-    row_of(h, n, spins, row, out_columns, out_re, out_im)
+    let terms = complex_terms(h);
+    row_of(terms, n, spins, row, out_columns, out_re, out_im)
 }

@@ -1,15 +1,24 @@
--- A loop that puts a changed copy of each term into an empty set: what stands there after i terms, and at the end.
+-- The terms that a set with a count holds. A loop that puts a changed copy of each term into an empty set: what stands there after i terms, and at the end.
 -- Assumes nothing.
-use Prim.Native.Nat.{ℕ, _+_, _≤_, _<_}
+use Prim.Native.Nat.{ℕ, _+_, _≤_, _<_, min}
 use native.Mathlib.Omega.{arith}
 use mathlib.Core.Path.{_≡_, sym, ap, _∙_}
 use mathlib.Core.List.{List, [], map}
 use lib.ListN.{length, take, getD, set, length-map}
-use lib.Seq.{length-take-le}
+use lib.Dec.{leb}
+use lib.Seq.{length-take-le, take-all}
+use borrow.Author.Tests.{leb-true, leb-false}
 use Rattle.terms.specs.Keyed.{padded}
 use Rattle.terms.specs.Setting.{mostTerms}
-use Rattle.terms.proofs.KeyedLaws.{map-more}
+use Rattle.terms.proofs.KeyedLaws.{by-test, map-more}
 use Rattle.terms.proofs.ClosingLaws.{padded-snoc}
+
+-- a count past the places holds as many terms as there are places
+pub take-held : {A : Type 0} (t : List A) (count : ℕ) {n : ℕ} → length t ≡ mostTerms → n ≡ min count mostTerms → take n t ≡ take count t
+take-held t count {n} whole e =
+    by-test (leb count mostTerms)
+    (λ q. let h = leb-true count mostTerms q in let m : n ≡ count = omega arith in ap (λ (k : ℕ). take k t) m)
+    (λ q. let h = leb-false count mostTerms q in take-all n t (omega arith) ∙ sym (take-all count t (omega arith)))
 
 -- u holds the copies of the first i of the n terms in t, and blanks past them
 pub record Copied {A B : Type 0} (f : A → B) (blank : B) (n : ℕ) (t : List A) (u : List B) (i : ℕ) : Type 0 where

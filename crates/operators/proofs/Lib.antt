@@ -8,4 +8,3 @@ pub mod RealValidLaws
 pub mod CopyLaws
 pub mod ValidAnswers
 pub mod RealValidAnswers
-pub mod OperatorRowLaws

@@ -5,4 +5,3 @@ pub mod Chained
 pub mod Kinds
 pub mod Reals
 pub mod RealAnswers
-pub mod OperatorRows

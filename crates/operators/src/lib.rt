@@ -2,7 +2,6 @@
 pub mod chain;
 pub mod decoherence_operator;
 pub mod hamiltonian_product;
-pub mod operator_row;
 pub mod pauli_hamiltonian;
 pub mod pauli_operator;
 pub mod term_set;

@@ -17,6 +17,7 @@ use crate::term_set::GetAnswer;
 use crate::term_set::SetAnswer;
 use crate::term_set::Term;
 use crate::term_set::TermSet;
+use crate::term_set::held_count;
 use complex::Complex;
 use products::items::Items;
 use products::pauli_product::PauliProduct;
@@ -230,11 +231,10 @@ fn blanks_past(s: PauliHamiltonian) -> bool
 }
 
 // The terms with complex coefficients, each second part +0.
-pub(crate) fn complex_terms(s: PauliHamiltonian) -> TermSet
-    requires { ⌜ s ≡ filled (heldBy s) ⌝ }
+pub fn complex_terms(s: PauliHamiltonian) -> TermSet
     ensures { λ r. ⌜ r ≡ complexes.filled (map complexTerm (heldBy s)) ⌝ }
 {
-    let n = s.count;
+    let n = held_count(s.count);
     let mut r = crate::term_set::empty_set();
     let mut i = 0;
     while i < n {

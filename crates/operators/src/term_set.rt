@@ -1,7 +1,7 @@
 // A set of terms with complex coefficients: the first `count` places hold terms, zero records stand past them.
 ghost use mathlib.Core.Path.{_≡_};
 ghost use mathlib.Core.Bool.{Bool, true, not, _&&_, _||_, cond};
-ghost use Prim.Native.Nat.{_+_, _-_, _<_, _≤_};
+ghost use Prim.Native.Nat.{_+_, _-_, _<_, _≤_, min};
 ghost use lib.ListN.{getD, drop};
 ghost use mathlib.Core.List.{[], map};
 ghost use Rattle.refusal.specs.Refusals.{gives};
@@ -66,6 +66,13 @@ pub fn empty_set() -> TermSet
         count: 0,
         terms: [blank_term(); 64],
     }
+}
+
+// How many terms a set with such a count holds: at most as many as it has places.
+pub fn held_count(count: usize) -> usize
+    ensures { λ r. ⌜ r ≡ min count 64 ⌝ }
+{
+    if count < 64 { count } else { 64 }
 }
 
 // The place of the first term with a key, from a place on; the count where there is none.

@@ -1,11 +1,19 @@
--- A row that is delivered, and a call that is refused, as row calls.
+-- A row that is delivered, and a call that is refused, as row calls; the tests of a call in their order.
 -- Assumes nothing.
-use mathlib.Core.Path.{_≡_, refl}
-use mathlib.Core.List.{List}
-use Prim.Native.Nat.{ℕ}
+use mathlib.Core.Path.{_≡_, refl, _∙_, subst}
+use mathlib.Core.Bool.{Bool, true, false, not, cond}
+use mathlib.Core.List.{List, [], _∷_}
+use Prim.Native.Nat.{ℕ, _+_, _*_, _^_, _≤_, _<_}
+use native.Mathlib.Omega.{arith}
+use lib.Ieee.{Float}
+use lib.Pow.{pow-add}
+use borrow.Author.Tests.{lt-ltb, le-ltb, le-leb, lt-leb}
 use Rattle.refusal.specs.Refusals.{Said, gives, refuses}
-use Rattle.rows.specs.Buffers.{TwoParts, DeliveredIn}
-use Rattle.rows.specs.Calls.{countOf, after, RowCallIn}
+use Rattle.complex.specs.declared.Complex.{Complex}
+use Rattle.products.specs.Answers.{mostSpins}
+use Rattle.products.specs.declared.items.Items.{Items}
+use Rattle.rows.specs.Buffers.{TwoParts, DeliveredIn, Delivered, Answered, mostEntries, floatRow}
+use Rattle.rows.specs.Calls.{countOf, after, RowCallIn, outside, unlessOutside, checkedRow}
 
 pub call-delivered : {N X : Type 0} {P : TwoParts N X} {l : List (ℕ × N)} {r : Said ℕ} {a a′ : List ℕ} {b b′ c c′ : List X} → DeliveredIn P l r a a′ b b′ c c′ → RowCallIn P (gives l) r a a′ b b′ c c′
 unfolding countOf after
@@ -14,3 +22,45 @@ call-delivered d = record { answer = d .answer; columns = d .columns; reals = d 
 pub call-refused : {N X : Type 0} {P : TwoParts N X} (k : ℕ) (s : List ℕ) (a : List ℕ) (b c : List X) → RowCallIn P (refuses k s) (refuses k s) a a b b c c
 unfolding countOf after
 call-refused k s a b c = record { answer = refl; columns = refl; reals = refl; imaginaries = refl }
+
+-- what is delivered of k entries that are the contributions l′
+pub delivered : {k : ℕ} (zeros : Bool) {l l′ : List (ℕ × Complex)} {r : Said ℕ} {a a′ : List ℕ} {b b′ c c′ : List Float} → k ≤ mostEntries → l ≡ l′
+    → Answered k (floatRow zeros l) r a a′ b b′ c c′ → Delivered (floatRow zeros l′) r a a′ b b′ c c′
+delivered zeros {l} {l′} {r} {a} {a′} {b} {b′} {c} {c′} h e d = subst (λ (x : List (ℕ × Complex)). Delivered (floatRow zeros x) r a a′ b b′ c c′) e (d .within h)
+
+-- ---- the tests of a row call over n spins, in their order; `size` is the count of rows that the code finds
+
+module _ {N X : Type 0} {P : TwoParts N X} (n rows r : ℕ) (ps : List Items) (l : List (ℕ × N)) {a : List ℕ} {b c : List X} where
+  -- 7
+  pub call-spins : mostSpins < n → RowCallIn P (checkedRow n rows r ps l) (refuses 7 []) a a b b c c
+  unfolding checkedRow
+  call-spins h = rw (lt-ltb mostSpins n h) (call-refused 7 [] a b c)
+
+  module _ (h : n ≤ mostSpins) {size : ℕ} (e : size ≡ rows) where
+    -- 9
+    pub call-range : size ≤ r → RowCallIn P (checkedRow n rows r ps l) (refuses 9 []) a a b b c c
+    unfolding checkedRow
+    call-range g = rw (le-ltb mostSpins n h, le-leb rows r (omega arith)) (call-refused 9 [] a b c)
+
+    module _ (g : r < size) where
+      -- 8
+      pub call-outside : {site : ℕ} → site ∷ [] ≡ outside n ps → RowCallIn P (checkedRow n rows r ps l) (refuses 8 (site ∷ [])) a a b b c c
+      unfolding checkedRow unlessOutside
+      call-outside {site} o = rw (le-ltb mostSpins n h, lt-leb rows r (omega arith), ← o) (call-refused 8 (site ∷ []) a b c)
+
+      -- the row
+      pub call-row : [] ≡ outside n ps → {x : Said ℕ} {a′ : List ℕ} {b′ c′ : List X} → DeliveredIn P l x a a′ b b′ c c′ → RowCallIn P (checkedRow n rows r ps l) x a a′ b b′ c c′
+      unfolding checkedRow unlessOutside
+      call-row o d = rw (le-ltb mostSpins n h, lt-leb rows r (omega arith), ← o) (call-delivered d)
+
+-- number 0 comes first
+pub call-malformed : {N X : Type 0} {P : TwoParts N X} (good : Bool) (x : Said (List (ℕ × N))) (a : List ℕ) (b c : List X) → good ≡ false → RowCallIn P (cond (not good) (refuses 0 []) x) (refuses 0 []) a a b b c c
+call-malformed good x a b c e = rw e (call-refused 0 [] a b c)
+
+pub call-valid : {N X : Type 0} {P : TwoParts N X} (good : Bool) {x y : Said (List (ℕ × N))} {r : Said ℕ} {a a′ : List ℕ} {b b′ c c′ : List X} → good ≡ true → x ≡ y → RowCallIn P x r a a′ b b′ c c′
+    → RowCallIn P (cond (not good) (refuses 0 []) y) r a a′ b b′ c c′
+call-valid {N} {X} {P} good {x} {y} {r} {a} {a′} {b} {b′} {c} {c′} e f d = rw e (subst (λ (z : Said (List (ℕ × N))). RowCallIn P z r a a′ b b′ c c′) f d)
+
+-- the count of a superoperator's rows
+pub pairs-size : (n : ℕ) {size : ℕ} → size ≡ 2 ^ (n + n) → size ≡ 2 ^ n * 2 ^ n
+pairs-size n e = e ∙ pow-add 2 n n

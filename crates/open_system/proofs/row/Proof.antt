@@ -1,25 +1,38 @@
 -- Number 0 for each part; the row of a valid system is that of `row_of`.
-use mathlib.Core.Path.{sym, _∙_}
+use mathlib.Core.Path.{sym, _∙_, subst}
 use borrow.Author.Tests.{not-true, not-false}
 use borrow.Author.Needs.{needs}
+use Rattle.operators.proofs.SetLaws.{held-from}
+use Rattle.set_rows.specs.OperatorRows.{itemsOf}
+use Rattle.set_rows.proofs.AcceptedLaws.{AllValid, all-both, hamiltonian-valid, noise-valid}
 use Rattle.open_system.proofs.SystemRowLaws.{system-malformed, noise-malformed, system-valid}
 use Rattle.open_system.proofs.row.Statement.{statement}
 use Rattle.open_system.proofs.row.Tie as tie
 
 is-valid-requires : tie.Need-is-valid-requires
-is-valid-requires c κs = tt
+is-valid-requires c κs = search needs
 
 returns : tie.Need-returns
 returns c = system-malformed (c .before .before .before .before .before .before .before .args .s) _ _ (sym (c .before .is-valid .ensures) ∙ not-true _ (c .if1 .taken))
 
 is-valid-requires-2 : tie.Need-is-valid-requires-2
-is-valid-requires-2 c κs = tt
+is-valid-requires-2 c κs = search needs
 
 returns-2 : tie.Need-returns-2
-returns-2 c = noise-malformed (c .before .before .before .before .before .before .before .before .before .args .s) _ _ (sym (c .before .before .before .is-valid .ensures) ∙ not-false _ (c .before .before .if1 .left)) (sym (c .before .is-valid2 .ensures) ∙ not-true _ (c .if2 .taken))
+returns-2 c =
+    let e = c .before .before in
+    noise-malformed (e .before .before .before .before .before .before .before .args .s) _ _ (sym (e .before .is-valid .ensures) ∙ not-false _ (e .if1 .left)) (sym (c .before .is-valid2 .ensures) ∙ not-true _ (c .if2 .taken))
+
+complex-terms-requires : tie.Need-complex-terms-requires
+complex-terms-requires c κs = search needs
 
 row-of-requires : tie.Need-row-of-requires
-row-of-requires c κs = (sym (c .before .before .before .before .before .before .is-valid .ensures) ∙ not-false _ (c .before .before .before .before .before .if1 .left), sym (c .before .before .before .before .is-valid2 .ensures) ∙ not-false _ (c .before .before .before .if2 .left))
+row-of-requires c κs =
+    let made = c .before .before .before in
+    let f = made .before in
+    let e = f .before .before in
+    all-both _ _ (subst (λ l. AllValid (itemsOf l)) (sym (held-from _ _ (made .complex-terms .ensures))) (hamiltonian-valid _ (sym (e .before .is-valid .ensures) ∙ not-false _ (e .if1 .left))))
+    (noise-valid _ (sym (f .before .is-valid2 .ensures) ∙ not-false _ (f .if2 .left)))
 
 same-length : tie.Need-same-length
 same-length c = search needs
@@ -31,7 +44,11 @@ same-length-3 : tie.Need-same-length-3
 same-length-3 c = search needs
 
 returns-3 : tie.Need-returns-3
-returns-3 c = system-valid (c .before .before .before .before .before .before .before .before .before .before .before .before .before .before .before .before .before .before .before .args .s) _ _ (sym (c .before .before .before .before .before .before .before .before .before .before .before .before .before .is-valid .ensures) ∙ not-false _ (c .before .before .before .before .before .before .before .before .before .before .before .before .if1 .left)) (sym (c .before .before .before .before .before .before .before .before .before .before .before .is-valid2 .ensures) ∙ not-false _ (c .before .before .before .before .before .before .before .before .before .before .if2 .left)) (c .before .before .before .before .before .before .row-of .ensures)
+returns-3 c =
+    let made = c .before .before .before .before .before .before .before .before .before .before in
+    let f = made .before in
+    let e = f .before .before in
+    system-valid (e .before .before .before .before .before .before .before .args .s) _ _ (sym (e .before .is-valid .ensures) ∙ not-false _ (e .if1 .left)) (sym (f .before .is-valid2 .ensures) ∙ not-false _ (f .if2 .left)) _ (held-from _ _ (made .complex-terms .ensures)) (c .before .before .before .before .before .before .row-of .ensures)
 
 pub row-spec : {M : Type 1} → statement M
 row-spec =
@@ -41,6 +58,7 @@ row-spec =
     returns
     is-valid-requires-2
     returns-2
+    complex-terms-requires
     row-of-requires
     same-length
     same-length-2

@@ -1,14 +1,16 @@
 -- Each refusal by the tests on the way; terms that fit are delivered.
 use mathlib.Core.Path.{sym, ap, _∙_}
+use native.Mathlib.Omega.{arith}
 use borrow.Author.Needs.{needs}
 use Rattle.refusal.specs.Refusals.{carried}
-use Rattle.operators.proofs.RealValidLaws as real-laws
-use Rattle.noise.proofs.ValidLaws as pair-laws
-use Rattle.open_system.proofs.SystemRowLaws.{call-spins, call-range, call-outside, call-row, in-range, pairs-size}
+use Rattle.rows.proofs.CallLaws.{call-spins, call-range, call-outside, call-row, pairs-size}
+use Rattle.set_rows.proofs.AcceptedLaws.{accepted}
+use Rattle.open_system.specs.OpenRows.{systemRowOf}
 use Rattle.open_system.proofs.row_of.Statement.{statement}
 use Rattle.open_system.proofs.row_of.Tie as tie
 
 returns : tie.Need-returns
+unfolding systemRowOf
 returns c = call-spins _ _ _ _ _ (c .if1 .taken)
 
 add-size-of : tie.Need-add-size-of
@@ -18,12 +20,13 @@ size-of-requires : tie.Need-size-of-requires
 size-of-requires c κs = search needs
 
 returns-2 : tie.Need-returns-2
-returns-2 c = call-range _ _ _ _ _ (c .before .before .if1 .left) (pairs-size _ (c .before .size-of .ensures)) (c .if2 .taken)
+unfolding systemRowOf
+returns-2 c =
+    let few = c .before .before .if1 .left in
+    call-range _ _ _ _ _ few (pairs-size _ (c .before .size-of .ensures (omega arith))) (c .if2 .taken)
 
 outside-site-requires : tie.Need-outside-site-requires
-outside-site-requires c κs =
-    let s = c .before .before .before .before .before .before in
-    (real-laws.valid-count _ (s .pre .0), pair-laws.valid-count _ (s .pre .1))
+outside-site-requires c κs = search needs
 
 enum-known-site : tie.Need-enum-known-site
 enum-known-site c = search needs
@@ -33,14 +36,19 @@ enum-told c = search needs
 
 delivered-requires : tie.Need-delivered-requires
 delivered-requires c κs =
-    let s = c .before .before .before .before .before .before .before .before .before .before .before .before in
+    let g = c .before .before .before .before .before .before in
+    let f = g .before in
+    let few = f .before .if1 .left in
     let none = ap carried (sym (c .before .before .before .enum-told .given .1)) ∙ c .before .before .before .before .before .outside-site .ensures in
-    (s .pre .0, s .pre .1, sym none, c .before .before .before .before .before .before .before .before .if1 .left, in-range (pairs-size _ (c .before .before .before .before .before .before .before .size-of .ensures)) (c .before .before .before .before .before .before .if2 .left))
+    accepted _ (f .before .before .before .before .before .pre) few (pairs-size _ (f .size-of .ensures (omega arith))) (g .if2 .left) none
 
 returns-3 : tie.Need-returns-3
+unfolding systemRowOf
 returns-3 c =
+    let g = c .before .before .before .before in
+    let few = g .before .before .if1 .left in
     let site = ap carried (sym (c .before .site .given .1)) ∙ c .before .before .before .outside-site .ensures in
-    call-outside _ _ _ _ _ (c .before .before .before .before .before .before .if1 .left) (pairs-size _ (c .before .before .before .before .before .size-of .ensures)) (c .before .before .before .before .if2 .left) site
+    call-outside _ _ _ _ _ few (pairs-size _ (g .before .size-of .ensures (omega arith))) (g .if2 .left) site
 
 same-length : tie.Need-same-length
 same-length c = search needs
@@ -52,9 +60,12 @@ same-length-3 : tie.Need-same-length-3
 same-length-3 c = search needs
 
 returns-4 : tie.Need-returns-4
+unfolding systemRowOf
 returns-4 c =
+    let g = c .before .before .before .before .before .before .before .before .before .before .before .before .before in
+    let few = g .before .before .if1 .left in
     let none = ap carried (sym (c .before .before .before .before .before .before .before .before .before .before .enum-told .given .1)) ∙ c .before .before .before .before .before .before .before .before .before .before .before .before .outside-site .ensures in
-    call-row _ _ _ _ _ (c .before .before .before .before .before .before .before .before .before .before .before .before .before .before .before .if1 .left) (pairs-size _ (c .before .before .before .before .before .before .before .before .before .before .before .before .before .before .size-of .ensures)) (c .before .before .before .before .before .before .before .before .before .before .before .before .before .if2 .left) none (c .before .before .before .before .before .before .delivered .ensures)
+    call-row _ _ _ _ _ few (pairs-size _ (g .before .size-of .ensures (omega arith))) (g .if2 .left) none (c .before .before .before .before .before .before .delivered .ensures)
 
 pub row-of-spec : {M : Type 1} → statement M
 row-of-spec =

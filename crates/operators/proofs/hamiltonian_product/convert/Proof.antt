@@ -6,7 +6,6 @@ use borrow.Author.Needs.{needs}
 use Rattle.operators.specs.RealAnswers.{intoOperator}
 use Rattle.terms.proofs.FilledLaws.{own-from}
 use Rattle.operators.proofs.SetLaws.{termSets}
-use Rattle.operators.proofs.RealValidLaws.{valid-own}
 use Rattle.operators.proofs.GatherLaws.{unchanged-of}
 use Rattle.operators.proofs.hamiltonian_product.convert.Statement.{statement}
 use Rattle.operators.proofs.hamiltonian_product.convert.Tie as tie
@@ -24,7 +23,7 @@ returns c =
     rw (bad, c .empty-set .ensures)
 
 complex-terms-requires : tie.Need-complex-terms-requires
-complex-terms-requires c κs = valid-own _ (sym (c .before .is-valid .ensures) ∙ not-false _ (c .if1 .left))
+complex-terms-requires c κs = search needs
 
 added-again-requires : tie.Need-added-again-requires
 added-again-requires c κs = own-from termSets _ _ (c .complex-terms .ensures)

@@ -7,7 +7,6 @@ use Rattle.letters.specs.Matrices.{lettersOf}
 use Rattle.operators.specs.RealAnswers.{multiplyReals}
 use Rattle.terms.proofs.FilledLaws.{own-from}
 use Rattle.operators.proofs.SetLaws.{termSets}
-use Rattle.operators.proofs.RealValidLaws.{valid-own}
 use Rattle.operators.proofs.GatherLaws.{products-of}
 use Rattle.operators.proofs.hamiltonian_product.multiply.Statement.{statement}
 use Rattle.operators.proofs.hamiltonian_product.multiply.Tie as tie
@@ -39,10 +38,10 @@ returns-2 c =
     rw (good, bad, c .empty-set2 .ensures)
 
 complex-terms-requires : tie.Need-complex-terms-requires
-complex-terms-requires c κs = valid-own _ (sym (c .before .before .before .is-valid .ensures) ∙ not-false _ (c .before .before .if1 .left))
+complex-terms-requires c κs = search needs
 
 complex-terms-requires-2 : tie.Need-complex-terms-requires-2
-complex-terms-requires-2 c κs = valid-own _ (sym (c .before .before .is-valid2 .ensures) ∙ not-false _ (c .before .if2 .left))
+complex-terms-requires-2 c κs = search needs
 
 multiplied-requires : tie.Need-multiplied-requires
 multiplied-requires c κs = (own-from termSets _ _ (c .before .complex-terms .ensures), own-from termSets _ _ (c .complex-terms2 .ensures))

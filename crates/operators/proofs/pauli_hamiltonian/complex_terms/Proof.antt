@@ -2,16 +2,17 @@
 use borrow.Author.Needs.{needs}
 use native.Mathlib.Omega.{arith}
 use Prim.Native.Nat.{_-_}
-use mathlib.Core.List.{[]}
+use mathlib.Core.List.{List, [], map}
 use mathlib.Core.Path.{_≡_, ap, _∙_}
 use lib.ListN.{length, length-map}
-use Rattle.terms.proofs.SettingLaws.{Held}
+use Rattle.terms.specs.Keyed.{padded}
+use Rattle.terms.specs.Setting.{mostTerms}
 use Rattle.operators.specs.Complexes as complexes
-use Rattle.operators.specs.Reals.{blank, complexTerm}
+use Rattle.operators.specs.Reals.{complexTerm}
+use Rattle.operators.specs.declared.pauli_hamiltonian.RealTerm.{RealTerm}
 use Rattle.operators.specs.declared.term_set.TermSet.{TermSet}
-use Rattle.operators.proofs.CopyLaws.{Copied, copied-none, copied-more, copied-done, copied-count}
-use Rattle.terms.proofs.FilledLaws.{filled-by, filled-places, held-own}
-use Rattle.operators.proofs.RealSetLaws.{realSets}
+use Rattle.terms.proofs.FilledLaws.{filled-by, filled-places}
+use Rattle.operators.proofs.CopyLaws.{take-held, Copied, copied-none, copied-more, copied-done, copied-count}
 use Rattle.operators.proofs.SetLaws.{termSets}
 use Rattle.operators.proofs.pauli_hamiltonian.complex_terms.Statement.{statement}
 use Rattle.operators.proofs.pauli_hamiltonian.complex_terms.Tie as tie
@@ -22,20 +23,19 @@ Inv-loop s n r₀ i₀ r i = Copied complexTerm complexes.blank n (s .terms) (r 
 abbrev μ-loop : tie.MeasureT-loop
 μ-loop s n r₀ i₀ r i = n - i
 
--- the set has all its places, and holds its own terms
+-- the set has all its places
 whole : (c : tie.Start Inv-loop μ-loop) → length (c .args .t1 .terms) ≡ 64
 whole c = simp length-map at (c .good .0 .1 .1 .1 .0 .1 .0 .1)
 
-own : (c : tie.Start Inv-loop μ-loop) → Held blank (c .args .t1 .count) (c .args .t1 .terms)
-own c = held-own realSets (c .args .t1) (whole c) (c .pre)
+held-count-requires : tie.Need-held-count-requires Inv-loop μ-loop
+held-count-requires c κs = search needs
 
 empty-set-requires : tie.Need-empty-set-requires Inv-loop μ-loop
 empty-set-requires c κs = search needs
 
 loop-holds : tie.Need-loop-holds Inv-loop μ-loop
 loop-holds c =
-    let w = whole (c .before) in
-    let few = own (c .before) .few in
+    let w = whole (c .before .before) in
     copied-none (omega arith) (omega arith) (ap (λ (o : TermSet). o .terms) (c .empty-set .ensures) ∙ filled-places termSets [])
 
 mul-t : tie.Need-mul-t Inv-loop μ-loop
@@ -44,8 +44,8 @@ mul-t c = omega arith
 element-copy-out-t : tie.Need-element-copy-out-t Inv-loop μ-loop
 element-copy-out-t c = omega arith
 
-mul-t10 : tie.Need-mul-t10 Inv-loop μ-loop
-mul-t10 c = omega arith
+mul-t11 : tie.Need-mul-t11 Inv-loop μ-loop
+mul-t11 c = omega arith
 
 element-set-from-r : tie.Need-element-set-from-r Inv-loop μ-loop
 element-set-from-r c = omega arith
@@ -62,7 +62,10 @@ loop-again c = copied-more _ (c .before .before .before .loop .inv) (omega arith
 returns : tie.Need-returns Inv-loop μ-loop
 returns c =
     let l = c .before in
-    filled-by termSets _ _ (copied-count (l .loop .inv)) (copied-done (l .loop .inv) (omega arith))
+    let s = l .before .before .before in
+    let all = take-held (s .args .t1 .terms) (s .args .t1 .count) (whole s) (l .before .before .held-count .ensures) in
+    filled-by termSets _ _ (copied-count (l .loop .inv) ∙ ap (λ (t : List RealTerm). length (map complexTerm t)) all)
+    (copied-done (l .loop .inv) (omega arith) ∙ ap (λ (t : List RealTerm). padded mostTerms complexes.blank (map complexTerm t)) all)
 
 pub complex-terms-spec : {M : Type 1} → statement M
 complex-terms-spec =
@@ -70,11 +73,12 @@ complex-terms-spec =
     (tie.spec
     Inv-loop
     μ-loop
+    held-count-requires
     empty-set-requires
     loop-holds
     mul-t
     element-copy-out-t
-    mul-t10
+    mul-t11
     element-set-from-r
     add-i
     loop-less

@@ -1,0 +1,3 @@
+pub mod OutsideLaws
+pub mod AcceptedLaws
+pub mod WritingLaws
