@@ -17,6 +17,4 @@ pub mod OrderingLaws
 pub mod OrderLaws
 pub mod ProductTheorems
 pub mod ProductCases
-pub mod ChangeCases
 pub mod RowCases
-pub mod OrderCases

@@ -1,5 +1,5 @@
--- Worked cases of document 01 on setting a site and on products, by computation from the definitions.
--- Letters: 1 X, 2 Y (iY in a decoherence product), 3 Z. Assumes nothing.
+-- Cases of setting a site and of products beside the marked ones, by computation from the definitions.
+-- Letters: 1 X, 2 Y, 3 Z. Assumes nothing.
 use mathlib.Core.Path.{_≡_, refl}
 use mathlib.Core.List.{List, [], _∷_}
 use Prim.Native.Nat.{ℕ}
@@ -8,7 +8,7 @@ use Rattle.refusal.specs.Refusals.{refuses, done}
 use Rattle.letters.specs.Gauss.{_⊕_, _⊗_, 𝟘, 𝟙, −𝟙, i⁺, i⁻, i^, eqℤ, eqG}
 use Rattle.letters.specs.Sums.{total}
 use Rattle.letters.specs.Tests.{every, firstFrom}
-use Rattle.letters.specs.Matrices.{two-by-two, pauli, decoherence, product}
+use Rattle.letters.specs.Matrices.{two-by-two, pauli, product}
 use Rattle.letters.specs.Single.{same, scaled, asLetter, times}
 use Rattle.products.specs.Lists.{at, support, padded}
 use Rattle.products.specs.Record.{placeValid, inShape, valid, lookup, letterAt, reach, recordOf}
@@ -21,16 +21,7 @@ product-of l = recordOf (at l) (length l)
 
 -- ---- setting a site
 
--- "`set_pauli` with Identity removes an occupied site and does nothing on a free one": 0X2Z on site 2, and on site 1
-pub identity-removes : setAnswer (product-of (1 ∷ 0 ∷ 3 ∷ [])) 2 0 ≡ (done, product-of (1 ∷ []))
-unfolding setAnswer valid inShape every placeValid letterAt lookup reach recordOf support padded
-identity-removes = refl
-
-pub identity-leaves : setAnswer (product-of (1 ∷ 0 ∷ 3 ∷ [])) 1 0 ≡ (done, product-of (1 ∷ 0 ∷ 3 ∷ []))
-unfolding setAnswer valid inShape every placeValid letterAt lookup reach recordOf support padded
-identity-leaves = refl
-
--- a letter on a free site, and one in place of another
+-- 0X2Z with a letter on a free site, and with one in place of another
 pub letter-added : setAnswer (product-of (1 ∷ 0 ∷ 3 ∷ [])) 1 2 ≡ (done, product-of (1 ∷ 2 ∷ 3 ∷ []))
 unfolding setAnswer valid inShape every placeValid letterAt lookup reach recordOf support padded
 letter-added = refl
@@ -62,24 +53,6 @@ unfolding setAnswer valid inShape every placeValid
 overfull-refused s l = refl
 
 -- ---- the product
-
--- "X·Y = Z with factor i; Y·X = Z with factor -i"
-pub x-times-y : multiplyAnswer pauli (product-of (1 ∷ [])) (product-of (2 ∷ [])) ≡ (done, (1, product-of (3 ∷ [])))
-unfolding multiplyAnswer valid inShape every placeValid letterAt lookup reach recordOf support padded total times asLetter same scaled firstFrom eqG eqℤ product pauli two-by-two i^ _⊕_ _⊗_ 𝟘 𝟙 −𝟙 i⁺ i⁻
-x-times-y = refl
-
-pub y-times-x : multiplyAnswer pauli (product-of (2 ∷ [])) (product-of (1 ∷ [])) ≡ (done, (3, product-of (3 ∷ [])))
-unfolding multiplyAnswer valid inShape every placeValid letterAt lookup reach recordOf support padded total times asLetter same scaled firstFrom eqG eqℤ product pauli two-by-two i^ _⊕_ _⊗_ 𝟘 𝟙 −𝟙 i⁺ i⁻
-y-times-x = refl
-
--- "iY·iY = Identity, -1. X·iY = Z, -1"
-pub iy-times-iy : multiplyAnswer decoherence (product-of (2 ∷ [])) (product-of (2 ∷ [])) ≡ (done, (2, product-of (0 ∷ [])))
-unfolding multiplyAnswer valid inShape every placeValid letterAt lookup reach recordOf support padded total times asLetter same scaled firstFrom eqG eqℤ product decoherence two-by-two i^ _⊕_ _⊗_ 𝟘 𝟙 −𝟙 i⁺ i⁻
-iy-times-iy = refl
-
-pub x-times-iy : multiplyAnswer decoherence (product-of (1 ∷ [])) (product-of (2 ∷ [])) ≡ (done, (2, product-of (3 ∷ [])))
-unfolding multiplyAnswer valid inShape every placeValid letterAt lookup reach recordOf support padded total times asLetter same scaled firstFrom eqG eqℤ product decoherence two-by-two i^ _⊕_ _⊗_ 𝟘 𝟙 −𝟙 i⁺ i⁻
-x-times-iy = refl
 
 -- the powers of two sites add up: 0X1Y times 0Y1X is 0Z1Z with i and -i, and 0X1Z times 0Y1Z is 0Z with i
 pub powers-cancel : multiplyAnswer pauli (product-of (1 ∷ 2 ∷ [])) (product-of (2 ∷ 1 ∷ [])) ≡ (done, (0, product-of (3 ∷ 3 ∷ [])))

@@ -1,19 +1,15 @@
--- The cases of document 01 on the rows of products, each by computation from the matrices.
+-- The refusals of a product's row, with document 01's examples, by computation.
 -- Assumes nothing.
 use mathlib.Core.Path.{_≡_, refl}
 use mathlib.Core.List.{List, [], _∷_}
 use Prim.Native.Nat.{ℕ}
 use lib.ListN.{length}
-use Rattle.refusal.specs.Refusals.{gives, refuses}
-use Rattle.letters.specs.Tests.{every, firstFrom}
-use Rattle.letters.specs.Gauss.{𝟘, 𝟙, −𝟙, i⁺, i⁻, _⊗_, i^, eqℤ, eqG}
-use Rattle.letters.specs.Sums.{total}
-use Rattle.letters.specs.Matrices.{two-by-two, decoherence, lettersOf, bit}
-use Rattle.letters.specs.Single.{cell}
-use Rattle.letters.specs.Rows.{columnOf, rowPower}
+use Rattle.refusal.specs.Refusals.{refuses}
+use Rattle.letters.specs.Tests.{every}
+use Rattle.letters.specs.Matrices.{lettersOf}
 use Rattle.letters.specs.declared.Kind.the-variants.{Pauli, Decoherence}
 use Rattle.products.specs.Lists.{padded}
-use Rattle.products.specs.Record.{capacity, placeValid, inShape, valid, lookup, letterAt, reach}
+use Rattle.products.specs.Record.{capacity, placeValid, inShape, valid, reach}
 use Rattle.products.specs.Answers.{rowAnswer}
 use Rattle.products.specs.declared.items.Items.{Items}
 
@@ -24,16 +20,6 @@ product sites letters = record { count = length sites; sites = padded capacity s
 -- 0iY
 abbrev pub one : Items
 one = product (0 ∷ []) (2 ∷ [])
-
--- row 0 of 0iY is column 1, factor 1
-pub row-zero : rowAnswer (lettersOf Decoherence) one 1 0 ≡ gives (1, 0)
-unfolding padded valid inShape placeValid rowAnswer reach columnOf rowPower total lookup letterAt bit every firstFrom cell eqG eqℤ lettersOf decoherence two-by-two i^ _⊗_ 𝟘 𝟙 −𝟙 i⁺ i⁻
-row-zero = refl
-
--- row 1 is column 0, factor -1
-pub row-one : rowAnswer (lettersOf Decoherence) one 1 1 ≡ gives (0, 2)
-unfolding padded valid inShape placeValid rowAnswer reach columnOf rowPower total lookup letterAt bit every firstFrom cell eqG eqℤ lettersOf decoherence two-by-two i^ _⊗_ 𝟘 𝟙 −𝟙 i⁺ i⁻
-row-one = refl
 
 -- 32 spins are too many
 pub spins-refused : rowAnswer (lettersOf Decoherence) one 32 0 ≡ refuses 7 []

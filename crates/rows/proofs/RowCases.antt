@@ -1,6 +1,6 @@
--- Worked rows of document 01, and two rows of Y, each computed: in whole numbers, counted in halves, and in f64. n = 1, and row = 2 k + l.
+-- Rows beside the marked cases, computed: a commutator row of Y in whole numbers, counted in halves, and in f64, and exact rows. n = 1.
 -- Assumes nothing.
-use Prim.Native.Nat.{ℕ, _/_, _%_}
+use Prim.Native.Nat.{ℕ}
 use mathlib.Core.Path.{_≡_, refl}
 use mathlib.Core.Bool.{true, false}
 use mathlib.Core.List.{List, [], _∷_, _++_}
@@ -17,68 +17,28 @@ use Rattle.letters.specs.Single.{cell}
 use Rattle.letters.specs.Rows.{columnOf, rowPower}
 use Rattle.rows.specs.Equation.{𝟚}
 use Rattle.rows.specs.Placing.{placed, placeAll, rowOf, nonzero}
-use Rattle.rows.specs.Numbers.{Numbers, minusHalfUnit, halves, floats}
+use Rattle.rows.specs.Numbers.{Numbers, halves, floats}
 use Rattle.rows.specs.Contributions.{commutatorTerms, noiseTerms}
 use Rattle.rows.specs.ExactRows.{exactRowOf, within, allSmall, taken, exactAnswer}
 
--- X, Y or iY, and Z on the spin
-abbrev X : ℕ → ℕ
-X s = 1
-
-abbrev Y : ℕ → ℕ
-Y s = 2
-
-abbrev Z : ℕ → ℕ
-Z s = 3
-
-module _ {C N : Type 0} (A : Numbers C N) where
-  -- a row of the pair (L, R), and a row of the commutator with one product
-  abbrev noiseRow : (ℕ → ℕ) → (ℕ → ℕ) → C → ℕ → List (ℕ × N)
-  noiseRow f g c row = rowOf (A .sum) (noiseTerms A 1 (row / 2) (row % 2) f g c)
-
-  abbrev commutatorRow : (ℕ → ℕ) → C → ℕ → List (ℕ × N)
-  commutatorRow f c row = nonzero (A .isZero) (rowOf (A .sum) (commutatorTerms A 1 (row / 2) (row % 2) f c))
-
--- ---- in halves
-
--- (X0, X0), 2: row 0 has -2 in column 0 and 2 in column 3
-x-x : noiseRow halves X X (record { re = pos 2; im = pos 0 }) 0 ≡ (0, record { re = negsuc 3; im = pos 0 }) ∷ (3, record { re = pos 4; im = pos 0 }) ∷ []
-unfolding rowOf placeAll placed noiseTerms columnOf rowPower total bit cell firstFrom eqG eqℤ decoherence two-by-two i^ _⊗_ _⊕_ 𝟘 𝟙 −𝟙 𝟚 i⁺ i⁻
-x-x = refl
-
--- (X0, iY0), 2: row 0 has 2 in columns 0 and 3
-x-iy : noiseRow halves X Y (record { re = pos 2; im = pos 0 }) 0 ≡ (0, record { re = pos 4; im = pos 0 }) ∷ (3, record { re = pos 4; im = pos 0 }) ∷ []
-unfolding rowOf placeAll placed noiseTerms columnOf rowPower total bit cell firstFrom eqG eqℤ decoherence two-by-two i^ _⊗_ _⊕_ 𝟘 𝟙 −𝟙 𝟚 i⁺ i⁻
-x-iy = refl
-
--- (Z0, Z0), 1: row 0 has 0 in column 0, and it is kept
-z-z : noiseRow halves Z Z (record { re = pos 1; im = pos 0 }) 0 ≡ (0, record { re = pos 0; im = pos 0 }) ∷ []
-unfolding rowOf placeAll placed noiseTerms columnOf rowPower total bit cell firstFrom eqG eqℤ decoherence two-by-two i^ _⊗_ _⊕_ 𝟘 𝟙 −𝟙 𝟚 i⁺ i⁻
-z-z = refl
-
--- 3 Z0: row 1 has -6i in column 1, and row 0 is empty
-three-z : commutatorRow halves Z (record { re = pos 3; im = pos 0 }) 1 ≡ (1, record { re = pos 0; im = negsuc 11 }) ∷ []
-unfolding rowOf placeAll placed nonzero commutatorTerms columnOf rowPower total bit cell firstFrom eqG eqℤ pauli two-by-two i^ _⊗_ _⊕_ 𝟘 𝟙 −𝟙 𝟚 i⁺ i⁻
-three-z = refl
-
-three-z-none : commutatorRow halves Z (record { re = pos 3; im = pos 0 }) 0 ≡ []
-unfolding rowOf placeAll placed nonzero commutatorTerms columnOf rowPower total bit cell firstFrom eqG eqℤ pauli two-by-two i^ _⊗_ _⊕_ 𝟘 𝟙 −𝟙 𝟚 i⁺ i⁻
-three-z-none = refl
+-- row 0 of the commutator with Y on the spin
+abbrev rowOfY : {C N : Type 0} → Numbers C N → C → List (ℕ × N)
+rowOfY A c = nonzero (A .isZero) (rowOf (A .sum) (commutatorTerms A 1 0 0 (λ s. 2) c))
 
 -- 1 Y0: row 0 has -1 in columns 1 and 2, since Y is not its own transpose
-one-y : commutatorRow halves Y (record { re = pos 1; im = pos 0 }) 0 ≡ (1, record { re = negsuc 1; im = pos 0 }) ∷ (2, record { re = negsuc 1; im = pos 0 }) ∷ []
+one-y : rowOfY halves (record { re = pos 1; im = pos 0 }) ≡ (1, record { re = negsuc 1; im = pos 0 }) ∷ (2, record { re = negsuc 1; im = pos 0 }) ∷ []
 unfolding rowOf placeAll placed nonzero commutatorTerms columnOf rowPower total bit cell firstFrom eqG eqℤ pauli two-by-two i^ _⊗_ _⊕_ 𝟘 𝟙 −𝟙 𝟚 i⁺ i⁻
 one-y = refl
 
 -- ---- exact rows
 
 -- (Z0, Z0), 1: the zero of row 0 is left out
-z-z-exact : exactRowOf (noiseTerms halves 1 0 0 Z Z (record { re = pos 1; im = pos 0 })) ≡ []
+z-z-exact : exactRowOf (noiseTerms halves 1 0 0 (λ s. 3) (λ s. 3) (record { re = pos 1; im = pos 0 })) ≡ []
 unfolding exactRowOf rowOf placeAll placed nonzero noiseTerms columnOf rowPower total bit cell firstFrom eqG eqℤ decoherence two-by-two i^ _⊗_ _⊕_ 𝟘 𝟙 −𝟙 𝟚 i⁺ i⁻
 z-z-exact = refl
 
 -- 3 Z0 with (X0, X0), 2: row 1 has -4 - 12 i in column 1 and 4 in column 2
-worked-row : exactRowOf (commutatorTerms halves 1 0 1 Z (record { re = pos 3; im = pos 0 }) ++ noiseTerms halves 1 0 1 X X (record { re = pos 2; im = pos 0 })) ≡ (1, record { re = negsuc 3; im = negsuc 11 }) ∷ (2, record { re = pos 4; im = pos 0 }) ∷ []
+worked-row : exactRowOf (commutatorTerms halves 1 0 1 (λ s. 3) (record { re = pos 3; im = pos 0 }) ++ noiseTerms halves 1 0 1 (λ s. 1) (λ s. 1) (record { re = pos 2; im = pos 0 })) ≡ (1, record { re = negsuc 3; im = negsuc 11 }) ∷ (2, record { re = pos 4; im = pos 0 }) ∷ []
 unfolding exactRowOf rowOf placeAll placed nonzero commutatorTerms noiseTerms columnOf rowPower total bit cell firstFrom eqG eqℤ pauli decoherence two-by-two i^ _⊗_ _⊕_ 𝟘 𝟙 −𝟙 𝟚 i⁺ i⁻
 worked-row = refl
 
@@ -102,37 +62,10 @@ large-refused = refl
 
 -- ---- in f64
 
--- +0 and -0
-abbrev +0 : Float
-+0 = fin false 0 (pos 0)
-
-abbrev −0 : Float
-−0 = fin true 0 (pos 0)
-
 -- the real number x
 abbrev real : Float → Complex
-real x = record { re = x; im = +0 }
+real x = record { re = x; im = fin false 0 (pos 0) }
 
-float-x-x : noiseRow floats X X (real (fin false 1 (pos 1))) 0 ≡ (0, record { re = fin true 1 (pos 1); im = −0 }) ∷ (3, real (fin false 1 (pos 1))) ∷ []
-unfolding rowOf placeAll placed noiseTerms columnOf rowPower total bit cell firstFrom eqG eqℤ decoherence two-by-two i^ _⊗_ 𝟘 𝟙 −𝟙 i⁺ i⁻ sumOf productOf unitOf unitOfI minusHalfUnit add sub mul neg ofBits
-float-x-x = refl
-
-float-x-iy : noiseRow floats X Y (real (fin false 1 (pos 1))) 0 ≡ (0, real (fin false 1 (pos 1))) ∷ (3, real (fin false 1 (pos 1))) ∷ []
-unfolding rowOf placeAll placed noiseTerms columnOf rowPower total bit cell firstFrom eqG eqℤ decoherence two-by-two i^ _⊗_ 𝟘 𝟙 −𝟙 i⁺ i⁻ sumOf productOf unitOf unitOfI minusHalfUnit add sub mul neg ofBits
-float-x-iy = refl
-
-float-z-z : noiseRow floats Z Z (real (fin false 1 (pos 0))) 0 ≡ (0, real +0) ∷ []
-unfolding rowOf placeAll placed noiseTerms columnOf rowPower total bit cell firstFrom eqG eqℤ decoherence two-by-two i^ _⊗_ 𝟘 𝟙 −𝟙 i⁺ i⁻ sumOf productOf unitOf unitOfI minusHalfUnit add sub mul neg ofBits
-float-z-z = refl
-
-float-three-z : commutatorRow floats Z (real (fin false 3 (pos 0))) 1 ≡ (1, record { re = +0; im = fin true 3 (pos 1) }) ∷ []
-unfolding rowOf placeAll placed nonzero commutatorTerms columnOf rowPower total bit cell firstFrom eqG eqℤ pauli two-by-two i^ _⊗_ 𝟘 𝟙 −𝟙 i⁺ i⁻ sumOf productOf unitOf unitOfI isZero add sub mul neg eq ofBits
-float-three-z = refl
-
-float-three-z-none : commutatorRow floats Z (real (fin false 3 (pos 0))) 0 ≡ []
-unfolding rowOf placeAll placed nonzero commutatorTerms columnOf rowPower total bit cell firstFrom eqG eqℤ pauli two-by-two i^ _⊗_ 𝟘 𝟙 −𝟙 i⁺ i⁻ sumOf productOf unitOf unitOfI isZero add sub mul neg eq ofBits
-float-three-z-none = refl
-
-float-one-y : commutatorRow floats Y (real (fin false 1 (pos 0))) 0 ≡ (1, real (fin true 1 (pos 0))) ∷ (2, real (fin true 1 (pos 0))) ∷ []
+float-one-y : rowOfY floats (real (fin false 1 (pos 0))) ≡ (1, real (fin true 1 (pos 0))) ∷ (2, real (fin true 1 (pos 0))) ∷ []
 unfolding rowOf placeAll placed nonzero commutatorTerms columnOf rowPower total bit cell firstFrom eqG eqℤ pauli two-by-two i^ _⊗_ 𝟘 𝟙 −𝟙 i⁺ i⁻ sumOf productOf unitOf unitOfI isZero add sub mul neg eq ofBits
 float-one-y = refl

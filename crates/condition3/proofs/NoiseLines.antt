@@ -1,0 +1,210 @@
+-- Calls on a noise set: it stays valid, and its terms are the lines that the reference model has after the call.
+-- Assumes nothing.
+use Prim.Native.Nat.{ℕ, _≤_}
+use native.Mathlib.Omega.{arith}
+use mathlib.Core.Path.{_≡_, refl, sym, ap, _∙_}
+use mathlib.Core.Bool.{Bool, true, false, not, _&&_, _||_, cond}
+use mathlib.Core.List.{List, [], _∷_, _++_, map}
+use mathlib.Core.Option.{Option, none, some}
+use lib.Dec.{eqb}
+use lib.ListN.{length}
+use Rattle.letters.proofs.TestLaws.{and-true, and-false}
+use Rattle.complex.specs.Complex.{inRange, productOf, conjugateOf}
+use Rattle.complex.specs.declared.Complex.{Complex}
+use Rattle.complex.proofs.FloatLaws.{clash}
+use Rattle.products.specs.Record.{valid}
+use Rattle.products.specs.declared.items.Items.{Items}
+use Rattle.terms.specs.Keyed.{each, concatMap}
+use Rattle.terms.specs.Setting.{mostTerms, write, hasRoom, added, addAll}
+use Rattle.terms.specs.Chains.{pairTerms as fullTerms}
+use Rattle.terms.proofs.KeyedLaws.{map-append}
+use Rattle.terms.proofs.SettingLaws.{each-write}
+use Rattle.operators.specs.Complexes.{complexTerms, complexProducts}
+use Rattle.operators.specs.Complexes as operators
+use Rattle.operators.specs.declared.term_set.Term.{Term}
+use Rattle.operators.specs.declared.term_set.TermSet.{TermSet}
+use Rattle.noise.specs.Pairs.{Key, sameKey, pairTerms, isEmpty, heldBy, filled, validSet}
+use Rattle.noise.specs.Answers.{validKey, emptySide, setPair, addPair, addFullOperators, allInRange, collected}
+use Rattle.noise.specs.declared.noise_set.NoiseTerm.{NoiseTerm}
+use Rattle.noise.specs.declared.noise_set.NoiseSet.{NoiseSet}
+use Rattle.noise.proofs.SetLaws.{held-filled}
+use Rattle.noise.proofs.ValidLaws.{same-key-equal, valid-held, valid-ranges}
+use Rattle.noise.proofs.NoiseValidAnswers as answers
+use Rattle.condition3.specs.ReferenceModel.{Line, writeLine, addLine, addLines, unlessFull, linesInRange, unlessRefused, lawfulPair, lawfulOperators, fullLines}
+use Rattle.condition3.proofs.LineLaws.{lineOf, linesOf, Faithful, lines-write, lines-add, linesIf, lines-addAll}
+use Rattle.condition3.proofs.AnswerLaws.{past, unless, either}
+use Rattle.condition3.proofs.PageLaws.{arguments-refused, range-refused, call-accepted, range-is, written-out, kept-full, kept-out, written-in}
+
+-- the two parts of a complex coefficient
+abbrev pub itself : Complex → Complex
+itself z = z
+
+abbrev pub noiseLines : NoiseSet → List (Line Key)
+noiseLines s = linesOf pairTerms itself (heldBy s)
+
+pairs-faithful : Faithful pairTerms itself
+pairs-faithful = record { same = same-key-equal; key-of = λ k a. refl; coefficient-of = λ k a. refl; zero = refl; sum = λ a b. refl; isZero = λ a. refl }
+
+module _ (s : NoiseSet) (v : validSet s ≡ true) where
+  few : length (heldBy s) ≤ mostTerms
+  few = let h = valid-held s v in omega (arith, h .long, h .few)
+
+  module _ (k : Key) (a : Complex) where
+    -- the terms are in range after one that is in range is written
+    written-range : (b : Complex) → inRange b ≡ true → linesInRange (linesOf pairTerms itself (write pairTerms k b (heldBy s))) ≡ true
+    written-range b r =
+        range-is pairTerms itself (write pairTerms k b (heldBy s))
+        ∙ each-write pairTerms (λ t. inRange (t .coefficient)) k b (heldBy s) (valid-ranges s v) r
+
+    -- its arguments are refused, or not
+    bad-product : validKey k ≡ false → lawfulPair k a ≡ false
+    unfolding lawfulPair
+    bad-product e = ap (λ b. b && (not (emptySide k) && inRange a)) e
+
+    bad-side : emptySide k ≡ true → lawfulPair k a ≡ false
+    unfolding lawfulPair
+    bad-side e = and-false (validKey k) (not (emptySide k) && inRange a) (ap (λ b. not b && inRange a) e)
+
+    bad-value : inRange a ≡ false → lawfulPair k a ≡ false
+    unfolding lawfulPair
+    bad-value e = and-false (validKey k) (not (emptySide k) && inRange a) (and-false (not (emptySide k)) (inRange a) e)
+
+    good-arguments : validKey k ≡ true → emptySide k ≡ false → inRange a ≡ true → lawfulPair k a ≡ true
+    unfolding lawfulPair
+    good-arguments w e r = and-true w (and-true (ap not e) r)
+
+    pub set-pair-valid : validSet (setPair s k a .1) ≡ true
+    set-pair-valid = either (λ x. validSet x ≡ true) s (setPair s k a) (answers.set-valid s k a) (answers.set-refused s k a) v
+
+    pub add-pair-valid : validSet (addPair s k a .1) ≡ true
+    add-pair-valid = either (λ x. validSet x ≡ true) s (addPair s k a) (λ o. answers.add-valid s k a) (answers.add-refused s k a) v
+
+    abbrev setPage : List (Line Key)
+    setPage = writeLine sameKey k a (noiseLines s)
+
+    pub set-pair-lines : noiseLines (setPair s k a .1) ≡ unlessRefused (lawfulPair k a) (unlessFull setPage) (noiseLines s)
+    unfolding setPair
+    set-pair-lines =
+        past P (validSet s) _ _ _ _ (λ e. absurd (clash (sym v ∙ e))) (λ u.
+        past P (validKey k) _ _ _ _ (λ e. sym (arguments-refused (lawfulPair k a) (noiseLines s) (bad-product e) (unlessFull setPage))) (λ w.
+        unless P (emptySide k) _ _ _ _ (λ e. sym (arguments-refused (lawfulPair k a) (noiseLines s) (bad-side e) (unlessFull setPage))) (λ n.
+        past P (inRange a) _ _ _ _ (λ e. sym (arguments-refused (lawfulPair k a) (noiseLines s) (bad-value e) (unlessFull setPage))) (λ r.
+        past P (hasRoom pairTerms k a (heldBy s)) _ _ _ _ (λ e. kept-full pairTerms itself pairs-faithful (lawfulPair k a) k a (heldBy s) setPage page few e) (λ e.
+        ap (linesOf pairTerms itself) (held-filled (write pairTerms k a (heldBy s)))
+        ∙ written-in pairTerms itself pairs-faithful (lawfulPair k a) k a (heldBy s) setPage page few (good-arguments w n r) e (ap linesInRange (sym page) ∙ written-range a r))))))
+      where
+        P : NoiseSet → Type 0
+        P x = noiseLines x ≡ unlessRefused (lawfulPair k a) (unlessFull setPage) (noiseLines s)
+
+        page : linesOf pairTerms itself (write pairTerms k a (heldBy s)) ≡ setPage
+        page = lines-write pairTerms itself pairs-faithful k a (heldBy s)
+
+    abbrev addPage : List (Line Key)
+    addPage = addLine sameKey k a (noiseLines s)
+
+    pub add-pair-lines : noiseLines (addPair s k a .1) ≡ unlessRefused (lawfulPair k a) (unlessFull addPage) (noiseLines s)
+    unfolding addPair addLine
+    add-pair-lines =
+        past P (validSet s) _ _ _ _ (λ e. absurd (clash (sym v ∙ e))) (λ u.
+        past P (validKey k) _ _ _ _ (λ e. sym (arguments-refused (lawfulPair k a) (noiseLines s) (bad-product e) (unlessFull addPage))) (λ w.
+        unless P (emptySide k) _ _ _ _ (λ e. sym (arguments-refused (lawfulPair k a) (noiseLines s) (bad-side e) (unlessFull addPage))) (λ n.
+        past P (inRange a) _ _ _ _ (λ e. sym (arguments-refused (lawfulPair k a) (noiseLines s) (bad-value e) (unlessFull addPage))) (λ r.
+        past P (hasRoom pairTerms k b (heldBy s)) _ _ _ _ (λ e. kept-full pairTerms itself pairs-faithful (lawfulPair k a) k b (heldBy s) addPage page few e) (λ e.
+        past P (inRange b) _ _ _ _ (λ o. kept-out pairTerms itself pairs-faithful (lawfulPair k a) k b (heldBy s) addPage page (out o)) (λ o.
+        ap (linesOf pairTerms itself) (held-filled (write pairTerms k b (heldBy s)))
+        ∙ written-in pairTerms itself pairs-faithful (lawfulPair k a) k b (heldBy s) addPage page few (good-arguments w n r) e (ap linesInRange (sym page) ∙ written-range b o)))))))
+      where
+        b : Complex
+        b = added pairTerms k a (heldBy s)
+
+        P : NoiseSet → Type 0
+        P x = noiseLines x ≡ unlessRefused (lawfulPair k a) (unlessFull addPage) (noiseLines s)
+
+        page : linesOf pairTerms itself (write pairTerms k b (heldBy s)) ≡ addPage
+        page = lines-add pairTerms itself pairs-faithful k a (heldBy s)
+
+        out : inRange b ≡ false → linesInRange addPage ≡ false
+        out o = ap linesInRange (sym page ∙ lines-write pairTerms itself pairs-faithful k b (heldBy s)) ∙ written-out sameKey k b (noiseLines s) o
+
+-- ---- full operators
+
+-- the lines of the pairs of two operators' terms
+line-pair : (p q : Bool) (x : NoiseTerm) → linesOf pairTerms itself (cond (not p && not q) (x ∷ []) []) ≡ cond (p || q) [] (linesOf pairTerms itself (x ∷ []))
+line-pair true q x = refl
+line-pair false true x = refl
+line-pair false false x = refl
+
+-- lines of results one after the other
+lines-concat : {A : Type 0} (f : A → List NoiseTerm) (g : A → List (Line Key)) → ((x : A) → linesOf pairTerms itself (f x) ≡ g x) → (l : List A) → linesOf pairTerms itself (concatMap f l) ≡ concatMap g l
+unfolding concatMap
+lines-concat f g h [] = refl
+lines-concat f g h (x ∷ l) = map-append (lineOf pairTerms itself) (f x) (concatMap f l) ∙ (λ j. h x j ++ lines-concat f g h l j)
+
+full-lines : (z : Complex) (l r : List Term) → linesOf pairTerms itself (fullTerms complexTerms pairTerms complexProducts isEmpty z l r) ≡ fullLines z l r
+unfolding fullTerms fullLines
+full-lines z l r = lines-concat _ _ (λ x. lines-concat _ _ (λ y. line-pair (isEmpty (x .items)) (isEmpty (y .items)) _) r) l
+
+module _ (s : NoiseSet) (l r : TermSet) (z : Complex) (v : validSet s ≡ true) where
+  -- the terms that the call adds, and what they make of the page
+  abbrev terms : List NoiseTerm
+  terms = fullTerms complexTerms pairTerms complexProducts isEmpty z (operators.heldBy l) (operators.heldBy r)
+
+  abbrev page : Option (List (Line Key))
+  page = addLines sameKey (fullLines z (operators.heldBy l) (operators.heldBy r)) (noiseLines s)
+
+  page-is : linesIf pairTerms itself pairs-faithful (addAll pairTerms terms (heldBy s)) ≡ page
+  page-is = lines-addAll pairTerms itself pairs-faithful terms (heldBy s) (few s v) ∙ ap (λ m. addLines sameKey m (noiseLines s)) (full-lines z (operators.heldBy l) (operators.heldBy r))
+
+  abbrev lawful : Bool
+  lawful = lawfulOperators l r z
+
+  abbrev empty : Bool
+  empty = eqb (l .count) 0 || eqb (r .count) 0
+
+  bad-left : operators.validSet false l ≡ false → lawful ≡ false
+  unfolding lawfulOperators
+  bad-left e = ap (λ b. (b && operators.validSet false r) && (not empty && inRange z)) e
+
+  bad-right : operators.validSet false r ≡ false → lawful ≡ false
+  unfolding lawfulOperators
+  bad-right e = ap (λ b. b && (not empty && inRange z)) (and-false (operators.validSet false l) (operators.validSet false r) e)
+
+  no-terms : empty ≡ true → lawful ≡ false
+  unfolding lawfulOperators
+  no-terms e = and-false (operators.validSet false l && operators.validSet false r) (not empty && inRange z) (ap (λ b. not b && inRange z) e)
+
+  bad-number : inRange z ≡ false → lawful ≡ false
+  unfolding lawfulOperators
+  bad-number e = and-false (operators.validSet false l && operators.validSet false r) (not empty && inRange z) (and-false (not empty) (inRange z) e)
+
+  good-operators : operators.validSet false l ≡ true → operators.validSet false r ≡ true → empty ≡ false → inRange z ≡ true → lawful ≡ true
+  unfolding lawfulOperators
+  good-operators a b c d = and-true (and-true a b) (and-true (ap not c) d)
+
+  -- the chain's end
+  ended : lawful ≡ true → (o : Option (List NoiseTerm)) → noiseLines (collected s o .1) ≡ unlessRefused lawful (linesIf pairTerms itself pairs-faithful o) (noiseLines s)
+  unfolding collected unlessRefused
+  ended g none = refl
+  ended g (some m) =
+      past (λ x. noiseLines x ≡ unlessRefused lawful (some (linesOf pairTerms itself m)) (noiseLines s)) (allInRange m) _ _ _ _
+      (λ e. sym (range-refused lawful (noiseLines s) (linesOf pairTerms itself m) (range m ∙ e)))
+      (λ e. ap (linesOf pairTerms itself) (held-filled m) ∙ sym (call-accepted lawful (noiseLines s) (linesOf pairTerms itself m) g (range m ∙ e)))
+    where
+      range : (m : List NoiseTerm) → linesInRange (linesOf pairTerms itself m) ≡ allInRange m
+      range m = unfold allInRange in range-is pairTerms itself m
+
+  pub full-set-valid : validSet (addFullOperators s l r z .1) ≡ true
+  full-set-valid = either (λ x. validSet x ≡ true) s (addFullOperators s l r z) (λ o. answers.full-valid s l r z) (answers.full-refused s l r z) v
+
+  pub full-set-lines : noiseLines (addFullOperators s l r z .1) ≡ unlessRefused lawful page (noiseLines s)
+  unfolding addFullOperators
+  full-set-lines =
+      past P (validSet s) _ _ _ _ (λ e. absurd (clash (sym v ∙ e))) (λ u.
+      past P (operators.validSet false l) _ _ _ _ (λ e. sym (arguments-refused lawful (noiseLines s) (bad-left e) page)) (λ a.
+      past P (operators.validSet false r) _ _ _ _ (λ e. sym (arguments-refused lawful (noiseLines s) (bad-right e) page)) (λ b.
+      unless P empty _ _ _ _ (λ e. sym (arguments-refused lawful (noiseLines s) (no-terms e) page)) (λ c.
+      past P (inRange z) _ _ _ _ (λ e. sym (arguments-refused lawful (noiseLines s) (bad-number e) page)) (λ d.
+      ended (good-operators a b c d) (addAll pairTerms terms (heldBy s)) ∙ ap (λ o. unlessRefused lawful o (noiseLines s)) page-is)))))
+    where
+      P : NoiseSet → Type 0
+      P x = noiseLines x ≡ unlessRefused lawful page (noiseLines s)

@@ -1,0 +1,46 @@
+-- Lists of calls, and the records that the entries give back, call after call, by the definitions that their contracts name.
+-- Document 01, `The book for condition 3`: "A list consists of calls of `set` and `add_operator_product`, each on the Hamiltonian or the noise
+-- set, and of `add_noise_from_full_operators`, refused ones included."
+use mathlib.Core.List.{List, []}
+use lib.Ieee.{Float}
+use Rattle.complex.specs.declared.Complex.{Complex}
+use Rattle.products.specs.declared.items.Items.{Items}
+use Rattle.terms.specs.Runs.{run}
+use Rattle.operators.specs.Reals as reals
+use Rattle.operators.specs.RealAnswers.{setReal, addReal}
+use Rattle.operators.specs.declared.term_set.TermSet.{TermSet}
+use Rattle.operators.specs.declared.pauli_hamiltonian.PauliHamiltonian.{PauliHamiltonian}
+use Rattle.noise.specs.Pairs.{Key}
+use Rattle.noise.specs.Pairs as pairs
+use Rattle.noise.specs.Answers.{setPair, addPair, addFullOperators}
+use Rattle.noise.specs.declared.noise_set.NoiseSet.{NoiseSet}
+
+-- a call: "its name, which of the two sets it is on and its other arguments", as the entry takes them, valid or not
+pub data Call : Type 0 where
+  setHamiltonian : Items → Float → Call
+  addHamiltonian : Items → Float → Call
+  setNoise : Key → Complex → Call
+  addNoise : Key → Complex → Call
+  addNoiseFromFullOperators : TermSet → TermSet → Complex → Call
+
+-- the two sets
+pub record Sets : Type 0 where
+  pub hamiltonian : PauliHamiltonian
+  pub noise : NoiseSet
+
+-- "It starts from a Hamiltonian and a noise set that `new` gave"
+abbrev pub newSets : Sets
+newSets = record { hamiltonian = reals.filled []; noise = pairs.filled [] }
+
+
+-- what a call leaves: "Each call gets its set as the last call on it gave it back, refused or not"
+unfoldable pub called : Call → Sets → Sets
+called (setHamiltonian p x) s = record { hamiltonian = setReal (s .hamiltonian) p x .1; noise = s .noise }
+called (addHamiltonian p x) s = record { hamiltonian = addReal (s .hamiltonian) p x .1; noise = s .noise }
+called (setNoise k z) s = record { hamiltonian = s .hamiltonian; noise = setPair (s .noise) k z .1 }
+called (addNoise k z) s = record { hamiltonian = s .hamiltonian; noise = addPair (s .noise) k z .1 }
+called (addNoiseFromFullOperators l r v) s = record { hamiltonian = s .hamiltonian; noise = addFullOperators (s .noise) l r v .1 }
+
+-- the sets after a list of calls
+unfoldable pub setsAfter : List Call → Sets
+setsAfter calls = run called calls newSets

@@ -1,0 +1,46 @@
+-- Every case of the table holds, by computation. Assumes nothing.
+use mathlib.Core.Path.{_≡_, refl}
+use mathlib.Core.List.{map}
+use lib.Ieee.{ofBits, ofInt, add, sub, mul, neg, eq}
+use Rattle.complex.specs.Complex.{sumOf, productOf, unitOf, unitOfI, isZero, atMost, partInRange, inRange, isPlusZero}
+use Rattle.letters.specs.Tests.{every, firstFrom}
+use Rattle.letters.specs.Gauss.{𝟘, 𝟙, −𝟙, i⁺, i⁻, _⊕_, _⊗_, conj, i^, eqℤ, eqG}
+use Rattle.letters.specs.Sums.{Σ, Π, total}
+use Rattle.letters.specs.Matrices.{two-by-two, pauli, decoherence, lettersOf, bit, matrix, product, adjoint}
+use Rattle.letters.specs.Single.{same, scaled, asLetter, times, conjugated, converted, cell}
+use Rattle.letters.specs.Rows.{columnOf, rowPower}
+use Rattle.letters.specs.Answers.{multiplyLetters}
+use Rattle.products.specs.Lists.{support, padded, sameList}
+use Rattle.products.specs.Record.{placeValid, inShape, valid, lookup, letterAt, reach, recordOf, sameItems}
+use Rattle.products.specs.Answers.{emptyProduct, setAnswer, multiplyAnswer, conjugateAnswer, convertAnswer, rowAnswer}
+use Rattle.products.specs.Orders.{andThen, compareNumbers, compareLists, pairs, keyOf, compareItems, compareAnswer}
+use Rattle.terms.specs.Keyed.{has, each, concatMap}
+use Rattle.terms.specs.Places.{goodTerm, validPlaces}
+use Rattle.rows.specs.Equation.{δ, 𝟚, commutator, adjointProduct, dissipator}
+use Rattle.rows.specs.Numbers.{minusHalfUnit}
+use Rattle.rows.specs.Contributions.{operatorTerms, commutatorTerms, noiseTerms}
+use Rattle.rows.specs.Placing.{placed, placeAll, rowOf, nonzero}
+use Rattle.rows.specs.Sorting.{upTo}
+use Rattle.rows.specs.Sums.{valueAt}
+use Rattle.rows.specs.Buffers.{floatRow}
+use Rattle.rows.specs.Calls.{outside, unlessOutside, checkedRow}
+use Rattle.operators.specs.Reals as reals
+use Rattle.operators.specs.OperatorRows.{commutatorContributions, commutatorRowOf, hamiltonianCommutatorRow}
+use Rattle.noise.specs.Pairs as noise
+use Rattle.noise.specs.NoiseRows.{itemsOf, noiseContributions, noiseRow}
+use Rattle.marked_cases.specs.Outcomes.{outcome}
+use Rattle.marked_cases.specs.Table.{table}
+
+pub every-case : map (λ r. outcome (r .0)) table ≡ map (λ r. r .1) table
+unfolding outcome table
+    ofBits ofInt add sub mul neg eq sumOf productOf unitOf unitOfI isZero atMost partInRange inRange isPlusZero
+    every firstFrom 𝟘 𝟙 −𝟙 i⁺ i⁻ _⊕_ _⊗_ conj i^ eqℤ eqG Σ Π total two-by-two pauli decoherence lettersOf bit matrix product adjoint
+    same scaled asLetter times conjugated converted cell columnOf rowPower multiplyLetters
+    support padded sameList placeValid inShape valid lookup letterAt reach recordOf sameItems
+    emptyProduct setAnswer multiplyAnswer conjugateAnswer convertAnswer rowAnswer
+    andThen compareNumbers compareLists pairs keyOf compareItems compareAnswer
+    δ 𝟚 commutator adjointProduct dissipator minusHalfUnit operatorTerms commutatorTerms noiseTerms
+    placed placeAll rowOf nonzero upTo valueAt floatRow outside unlessOutside checkedRow
+    has each concatMap goodTerm validPlaces reals.filled reals.isBlank reals.validSet noise.filled noise.isBlank noise.validSet
+    commutatorContributions commutatorRowOf hamiltonianCommutatorRow itemsOf noiseContributions noiseRow
+every-case = refl
