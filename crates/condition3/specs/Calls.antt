@@ -32,7 +32,6 @@ pub record Sets : Type 0 where
 abbrev pub newSets : Sets
 newSets = record { hamiltonian = reals.filled []; noise = pairs.filled [] }
 
-
 -- what a call leaves: "Each call gets its set as the last call on it gave it back, refused or not"
 unfoldable pub called : Call → Sets → Sets
 called (setHamiltonian p x) s = record { hamiltonian = setReal (s .hamiltonian) p x .1; noise = s .noise }

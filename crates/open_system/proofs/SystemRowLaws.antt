@@ -14,7 +14,7 @@ use Rattle.rows.proofs.CallLaws.{call-refused}
 use Rattle.operators.specs.Reals as reals
 use Rattle.operators.specs.declared.term_set.Term.{Term}
 use Rattle.noise.specs.Pairs as pairs
-use Rattle.set_rows.specs.OperatorRows.{hamiltonianTerms}
+use Rattle.open_system.specs.OperatorRows.{hamiltonianTerms}
 use Rattle.open_system.specs.OpenRows.{validSystem, systemRowOf, systemRow}
 use Rattle.open_system.specs.declared.PauliOpenSystem.{PauliOpenSystem}
 

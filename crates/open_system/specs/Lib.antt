@@ -1,1 +1,4 @@
+pub mod Accepted
+pub mod OperatorRows
+pub mod NoiseRows
 pub mod OpenRows

@@ -12,10 +12,10 @@ use Rattle.operators.specs.Reals as reals
 use Rattle.operators.specs.declared.term_set.Term.{Term}
 use Rattle.noise.specs.Pairs as pairs
 use Rattle.noise.specs.declared.noise_set.NoiseTerm.{NoiseTerm}
-use Rattle.set_rows.specs.OperatorRows.{hamiltonianTerms, commutatorContributions}
-use Rattle.set_rows.specs.OperatorRows as operators
-use Rattle.set_rows.specs.NoiseRows.{noiseContributions}
-use Rattle.set_rows.specs.NoiseRows as noise
+use Rattle.open_system.specs.OperatorRows.{hamiltonianTerms, commutatorContributions}
+use Rattle.open_system.specs.OperatorRows as operators
+use Rattle.open_system.specs.NoiseRows.{noiseContributions}
+use Rattle.open_system.specs.NoiseRows as noise
 use Rattle.open_system.specs.declared.PauliOpenSystem.{PauliOpenSystem}
 
 -- number 0 lets both sets pass

@@ -1,8 +1,8 @@
-// Open systems: a Hamiltonian with noise, and the rows of their superoperator.
+// Open systems: a Hamiltonian with noise, and the rows of their superoperator; rows of operators, Hamiltonians and noise sets.
 ghost use mathlib.Core.Path.{_≡_};
 ghost use mathlib.Core.Bool.{true, false};
 ghost use mathlib.Core.List.{[]};
-ghost use Prim.Native.Nat.{_*_, _^_};
+ghost use Prim.Native.Nat.{_*_, _^_, _<_};
 ghost use Rattle.refusal.specs.Refusals.{carried};
 ghost use Rattle.products.specs.Record.{valid};
 ghost use Rattle.terms.specs.Keyed.{each};
@@ -11,24 +11,29 @@ ghost use Rattle.rows.specs.Calls.{RowCall, outside};
 ghost use Rattle.operators.specs.Complexes as complexes;
 ghost use Rattle.operators.specs.Reals as reals;
 ghost use Rattle.noise.specs.Pairs as pairs;
-ghost use Rattle.set_rows.specs.Accepted.{Accepted};
-ghost use Rattle.set_rows.specs.OperatorRows.{commutatorContributions};
-ghost use Rattle.set_rows.specs.NoiseRows.{noiseContributions};
+ghost use Rattle.open_system.specs.Accepted.{Accepted};
+ghost use Rattle.open_system.specs.OperatorRows.{commutatorContributions};
+ghost use Rattle.open_system.specs.NoiseRows.{noiseContributions};
 ghost use Rattle.open_system.specs.OpenRows.{itemsOf, systemRowOf, systemRow};
+
+mod contributions;
+pub mod noise_row;
+pub mod operator_row;
+mod outside;
+
+use contributions::write_commutator;
+use contributions::write_noise;
 use noise::noise_set::NoiseSet;
 use operators::pauli_hamiltonian::PauliHamiltonian;
 use operators::pauli_hamiltonian::complex_terms;
 use operators::term_set::TermSet;
+use outside::of_noise;
+use outside::of_operator;
 use products::row::MOST_SPINS;
 use refusal::Carried;
 use refusal::Refusal;
 use rows::Delivery;
 use rows::deliver_both;
-use set_rows::contributions::write_commutator;
-use set_rows::contributions::write_noise;
-use set_rows::outside::of_noise;
-use set_rows::outside::of_operator;
-use set_rows::size_of;
 
 pub struct PauliOpenSystem {
     pub system: PauliHamiltonian,
@@ -47,6 +52,16 @@ impl PauliOpenSystem {
             noise: n,
         }
     }
+}
+
+// The count of the rows of a matrix over `spins` spins, where it fits 64 bits.
+pub(crate) fn size_of(spins: u32) -> u64
+    ensures { λ r. ⌜ (spins < 64 → r ≡ 2 ^ spins) ⌝ }
+{
+    if 63 < spins {
+        return 0;
+    }
+    1u64 << spins
 }
 
 // The first product with a site at the spin count or above, by its highest site: the Hamiltonian before the noise.

@@ -1,8 +1,8 @@
 -- What `deliver_both` answers of the contributions of both parts.
 use borrow.Author.Needs.{needs}
 use Rattle.operators.specs.Complexes.{heldBy}
-use Rattle.set_rows.specs.OperatorRows.{itemsOf}
-use Rattle.set_rows.proofs.AcceptedLaws.{accepted-left, accepted-right}
+use Rattle.open_system.specs.OperatorRows.{itemsOf}
+use Rattle.open_system.proofs.AcceptedLaws.{accepted-left, accepted-right}
 use Rattle.open_system.proofs.SystemRowLaws.{delivered-both}
 use Rattle.open_system.proofs.delivered.Statement.{statement}
 use Rattle.open_system.proofs.delivered.Tie as tie

@@ -2,7 +2,7 @@
 use mathlib.Core.Path.{sym, ap, _∙_}
 use borrow.Author.Needs.{needs}
 use Rattle.refusal.specs.Refusals.{carried}
-use Rattle.set_rows.proofs.OutsideLaws.{outside-found, outside-past}
+use Rattle.open_system.proofs.OutsideLaws.{outside-found, outside-past}
 use Rattle.open_system.proofs.outside_site.Statement.{statement}
 use Rattle.open_system.proofs.outside_site.Tie as tie
 

@@ -3,8 +3,8 @@ use mathlib.Core.Path.{sym, _∙_, subst}
 use borrow.Author.Tests.{not-true, not-false}
 use borrow.Author.Needs.{needs}
 use Rattle.operators.proofs.SetLaws.{held-from}
-use Rattle.set_rows.specs.OperatorRows.{itemsOf}
-use Rattle.set_rows.proofs.AcceptedLaws.{AllValid, all-both, hamiltonian-valid, noise-valid}
+use Rattle.open_system.specs.OperatorRows.{itemsOf}
+use Rattle.open_system.proofs.AcceptedLaws.{AllValid, all-both, hamiltonian-valid, noise-valid}
 use Rattle.open_system.proofs.SystemRowLaws.{system-malformed, noise-malformed, system-valid}
 use Rattle.open_system.proofs.row.Statement.{statement}
 use Rattle.open_system.proofs.row.Tie as tie

@@ -4,7 +4,7 @@ use native.Mathlib.Omega.{arith}
 use borrow.Author.Needs.{needs}
 use Rattle.refusal.specs.Refusals.{carried}
 use Rattle.rows.proofs.CallLaws.{call-spins, call-range, call-outside, call-row, pairs-size}
-use Rattle.set_rows.proofs.AcceptedLaws.{accepted}
+use Rattle.open_system.proofs.AcceptedLaws.{accepted}
 use Rattle.open_system.specs.OpenRows.{systemRowOf}
 use Rattle.open_system.proofs.row_of.Statement.{statement}
 use Rattle.open_system.proofs.row_of.Tie as tie

@@ -1,0 +1,157 @@
+// The contributions of a set's terms to a row, in term order, into three arrays.
+ghost use mathlib.Core.Path.{_≡_};
+ghost use mathlib.Core.List.{[], _∷_, _++_};
+ghost use Prim.Native.Nat.{_+_, _*_, _^_, _≤_, _<_};
+ghost use Rattle.letters.specs.Matrices.{lettersOf};
+ghost use Rattle.rows.specs.Buffers.{Long, entries};
+ghost use Rattle.operators.specs.Complexes as complexes;
+ghost use Rattle.noise.specs.Pairs as pairs;
+ghost use Rattle.open_system.specs.Accepted.{Accepted};
+ghost use Rattle.open_system.specs.OperatorRows.{itemsOf, commutatorPart, operatorContributions, commutatorContributions};
+ghost use Rattle.open_system.specs.NoiseRows.{sides, noisePart, noiseContributions};
+ghost use Rattle.open_system.specs.NoiseRows as noise_rows;
+use complex::Complex;
+use letters::Kind;
+use noise::noise_set::NoiseSet;
+use noise::noise_set::NoiseTerm;
+use operators::term_set::Term;
+use operators::term_set::TermSet;
+use operators::term_set::held_count;
+use rows::entries::commutator_entries;
+use rows::entries::minus_half_unit;
+use rows::entries::noise_entries;
+use rows::entries::operator_entry;
+
+// One contribution at a place.
+fn put(
+    column: u64,
+    value: Complex,
+    at: usize,
+    columns: &mut [u64; 320],
+    re: &mut [f64; 320],
+    im: &mut [f64; 320],
+)
+    requires { ⌜ at < 320 ⌝ }
+    ensures { λ r. ⌜ (Long (now (columns .entry)) (now (re .entry)) (now (im .entry)) → (entries (now (columns .exit)) (now (re .exit)) (now (im .exit)) (at + 1) ≡ entries (now (columns .entry)) (now (re .entry)) (now (im .entry)) at ++ ((column, value) ∷ [])) × Long (now (columns .exit)) (now (re .exit)) (now (im .exit))) ⌝ }
+{
+    columns[at] = column;
+    re[at] = value.re;
+    im[at] = value.im;
+}
+
+// The contributions of an operator's terms, one of each term; how many there are.
+pub(crate) fn write_operator(
+    kind: Kind,
+    s: TermSet,
+    spins: u32,
+    row: u64,
+    columns: &mut [u64; 320],
+    re: &mut [f64; 320],
+    im: &mut [f64; 320],
+) -> usize
+    ensures { λ r. ⌜ (r ≤ 64) × (Long (now (columns .entry)) (now (re .entry)) (now (im .entry)) → Accepted spins (2 ^ spins) row (itemsOf (complexes.heldBy s)) → entries (now (columns .exit)) (now (re .exit)) (now (im .exit)) r ≡ operatorContributions (lettersOf kind) spins row (complexes.heldBy s)) ⌝ }
+{
+    let n = held_count(s.count);
+    let mut i = 0;
+    while i < n {
+        let t = s.terms[i];
+        let a = t.coefficient;
+        let e = operator_entry(kind, t.items, spins, row);
+        let value = a.product(complex::unit_of_i(e.power));
+        put(e.column, value, i, columns, re, im);
+        i += 1;
+    }
+    n
+}
+
+// The two contributions of a term to a commutator's row, from a place on: its left half, then its right half.
+fn put_commutator(
+    t: Term,
+    spins: u32,
+    row: u64,
+    at: usize,
+    columns: &mut [u64; 320],
+    re: &mut [f64; 320],
+    im: &mut [f64; 320],
+)
+    requires { ⌜ at + 2 ≤ 320 ⌝ }
+    ensures { λ r. ⌜ (Long (now (columns .entry)) (now (re .entry)) (now (im .entry)) → (Accepted spins (2 ^ spins * 2 ^ spins) row (t .items ∷ []) → entries (now (columns .exit)) (now (re .exit)) (now (im .exit)) (at + 2) ≡ entries (now (columns .entry)) (now (re .entry)) (now (im .entry)) at ++ commutatorPart spins row t) × Long (now (columns .exit)) (now (re .exit)) (now (im .exit))) ⌝ }
+{
+    let c = t.coefficient;
+    let e = commutator_entries(t.items, spins, row);
+    let left = e.left;
+    let right = e.right;
+    let a = c.product(complex::unit_of_i(left.power));
+    let b = c.product(complex::unit_of_i(right.power));
+    put(left.column, a, at, columns, re, im);
+    put(right.column, b, at + 1, columns, re, im);
+}
+
+// The contributions of a commutator's terms, two of each term; how many there are.
+pub(crate) fn write_commutator(
+    s: TermSet,
+    spins: u32,
+    row: u64,
+    columns: &mut [u64; 320],
+    re: &mut [f64; 320],
+    im: &mut [f64; 320],
+) -> usize
+    ensures { λ r. ⌜ (r ≤ 128) × (Long (now (columns .entry)) (now (re .entry)) (now (im .entry)) → Accepted spins (2 ^ spins * 2 ^ spins) row (itemsOf (complexes.heldBy s)) → entries (now (columns .exit)) (now (re .exit)) (now (im .exit)) r ≡ commutatorContributions spins row (complexes.heldBy s)) ⌝ }
+{
+    let n = held_count(s.count);
+    let mut i = 0;
+    while i < n {
+        let t = s.terms[i];
+        put_commutator(t, spins, row, 2 * i, columns, re, im);
+        i += 1;
+    }
+    2 * n
+}
+
+// The three contributions of a noise term, from a place on.
+fn put_noise(
+    t: NoiseTerm,
+    spins: u32,
+    row: u64,
+    at: usize,
+    columns: &mut [u64; 320],
+    re: &mut [f64; 320],
+    im: &mut [f64; 320],
+)
+    requires { ⌜ at + 3 ≤ 320 ⌝ }
+    ensures { λ r. ⌜ (Long (now (columns .entry)) (now (re .entry)) (now (im .entry)) → (Accepted spins (2 ^ spins * 2 ^ spins) row (sides t) → entries (now (columns .exit)) (now (re .exit)) (now (im .exit)) (at + 3) ≡ entries (now (columns .entry)) (now (re .entry)) (now (im .entry)) at ++ noisePart spins row t) × Long (now (columns .exit)) (now (re .exit)) (now (im .exit))) ⌝ }
+{
+    let c = t.coefficient;
+    let e = noise_entries(t.left, t.right, spins, row);
+    let jump = e.jump;
+    let left = e.left;
+    let right = e.right;
+    let a = c.product(complex::unit_of_i(jump.power));
+    let b = c.product(minus_half_unit(left.power));
+    let d = c.product(minus_half_unit(right.power));
+    put(jump.column, a, at, columns, re, im);
+    let next = at + 1;
+    put(left.column, b, next, columns, re, im);
+    put(right.column, d, next + 1, columns, re, im);
+}
+
+// The contributions of a noise set's terms, three of each term; how many there are.
+pub(crate) fn write_noise(
+    s: NoiseSet,
+    spins: u32,
+    row: u64,
+    columns: &mut [u64; 320],
+    re: &mut [f64; 320],
+    im: &mut [f64; 320],
+) -> usize
+    ensures { λ r. ⌜ (r ≤ 192) × (Long (now (columns .entry)) (now (re .entry)) (now (im .entry)) → Accepted spins (2 ^ spins * 2 ^ spins) row (noise_rows.itemsOf (pairs.heldBy s)) → entries (now (columns .exit)) (now (re .exit)) (now (im .exit)) r ≡ noiseContributions spins row (pairs.heldBy s)) ⌝ }
+{
+    let n = held_count(s.count);
+    let mut i = 0;
+    while i < n {
+        let t = s.terms[i];
+        put_noise(t, spins, row, 3 * i, columns, re, im);
+        i += 1;
+    }
+    3 * n
+}

@@ -1,3 +1,0 @@
-pub mod OutsideLaws
-pub mod AcceptedLaws
-pub mod WritingLaws
