@@ -58,9 +58,6 @@ stands-after c ts h =
 pub start-is : (s : TermSet) → s ≡ filled [] → record { outcome = Outcome.Done; set = s } ≡ after []
 start-is s e = stands-after _ [] (given-stands termSets s [] e ∙ ap (shown filled) (sym (addOn-nil complexTerms (gives []))))
 
-pub start-chain : (s : TermSet) → s ≡ filled [] → Chain (record { outcome = Outcome.Done; set = s })
-start-chain s e = record { terms = []; is = start-is s e }
-
 -- its set holds its own terms
 pub chain-own : (c : TermSetAnswer) → Chain c → c .set ≡ filled (heldBy (c .set))
 chain-own c s = stands-own termSets _ (c .set) (stateAfter (s .terms)) (after-stands c (s .terms) (s .is))

@@ -1,3 +1,4 @@
+pub mod BranchLaws
 pub mod KeyedLaws
 pub mod ClosingLaws
 pub mod SettingLaws

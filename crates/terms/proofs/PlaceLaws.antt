@@ -10,10 +10,10 @@ use mathlib.Core.Bool.{Bool, true, false, not}
 use mathlib.Core.List.{List, [], _∷_, _++_, map}
 use lib.ListN.{length, take, drop, getD, set, replicate, length-drop}
 use lib.Seq.{getD-take, length-take-le}
-use borrow.Author.Tests.{not-true, not-false}
 use Rattle.terms.specs.Keyed.{firstAt, held, padded, omitted, each}
 use Rattle.terms.specs.Kind.{Terms}
 use Rattle.terms.specs.Setting.{mostTerms, keyed, coefficientAt}
+use Rattle.terms.proofs.BranchLaws.{passed, failed}
 use Rattle.terms.proofs.KeyedLaws.{each-head, each-tail, each-passes, each-fails, each-end, passes, skips, none-left, there, nowhere, firstAt-le, headOr-one, headOr-none}
 use Rattle.terms.proofs.ClosingLaws.{length-omitted, close-turn, open-up, closed-up}
 use Rattle.terms.proofs.SettingLaws.{Held, held-past}
@@ -63,11 +63,11 @@ module _ {A : Type 0} {p : A → List A → Bool} {l : List A} {n from : ℕ} wh
         record {
           long = s .long;
           within = omega arith;
-          same = s .same ∙ each-passes p l i d (omega (arith, s .long)) (sym e ∙ not-false b f);
+          same = s .same ∙ each-passes p l i d (omega (arith, s .long)) (passed e f);
         }
 
     pub judged-failed : not b ≡ true → false ≡ each p (drop from l)
-    judged-failed f = sym (s .same ∙ each-fails p l i d (omega (arith, s .long)) (sym e ∙ not-true b f))
+    judged-failed f = sym (s .same ∙ each-fails p l i d (omega (arith, s .long)) (failed e f))
 
   pub judged-done : {i : ℕ} → Judged p l n from i → n ≤ i → true ≡ each p (drop from l)
   judged-done {i} s h = sym (s .same ∙ each-end p l i (omega (arith, s .long)))

@@ -291,14 +291,6 @@ module _ {K N : Type 0} (S : Terms K N) where
       (λ r. addAll-room x (xs ++ ys) l r ∙ addAll-append-none xs ys (addOne S x l) (sym (addAll-room x xs l r) ∙ e))
       (λ r. addAll-full x (xs ++ ys) l r)
 
-  -- one term more, as a loop adds them
-  pub addAll-snoc : (xs : List (S .Term)) (t : S .Term) (l m : List (S .Term)) → addAll S xs l ≡ some m → roomFor S t m ≡ true → addAll S (xs ++ t ∷ []) l ≡ some (addOne S t m)
-  addAll-snoc xs t l m e r = addAll-append xs (t ∷ []) l m e ∙ addAll-room t [] m r ∙ addAll-nil (addOne S t m)
-
-  -- a loop that finds no room ends there, whatever is left
-  pub addAll-stops : (xs : List (S .Term)) (t : S .Term) (ys l m : List (S .Term)) → addAll S xs l ≡ some m → roomFor S t m ≡ false → addAll S (xs ++ t ∷ ys) l ≡ none
-  addAll-stops xs t ys l m e r = addAll-append xs (t ∷ ys) l m e ∙ addAll-full t ys m r
-
   -- what each step keeps is kept: P of the terms held, Q of those added
   pub addAll-keeps : (P : List (S .Term) → Type 0) (Q : S .Term → Type 0) → ((t : S .Term) (m : List (S .Term)) → Q t → P m → roomFor S t m ≡ true → P (addOne S t m))
       → (ts l l′ : List (S .Term)) → All Q ts → P l → addAll S ts l ≡ some l′ → P l′
@@ -308,27 +300,9 @@ module _ {K N : Type 0} (S : Terms K N) where
       (λ r. addAll-keeps P Q step ts (addOne S t l) l′ (all-tail Q t ts q) (step t l (all-head Q t ts q) h r) (sym (addAll-room t ts l r) ∙ e))
       (λ r. absurd (none-some l′ (sym (addAll-full t ts l r) ∙ e)))
 
-  anything : (ts : List (S .Term)) → All (λ t. Unit {0}) ts
-  anything ts = all-of (λ t. Unit {0}) (λ t. tt) ts
-
   -- there are at most the most terms
   pub addAll-length : (ts l l′ : List (S .Term)) → length l ≤ mostTerms → addAll S ts l ≡ some l′ → length l′ ≤ mostTerms
   addAll-length ts l l′ h e =
       addAll-keeps (λ (m : List (S .Term)). length m ≤ mostTerms) (λ t. Unit {0})
       (λ t m q h r. write-length (S .key t) (added S (S .key t) (S .coefficient t) m) m r h)
-      ts l l′ (anything ts) h e
-
-  -- no key comes twice
-  pub addAll-keys : Alike S → (ts l l′ : List (S .Term)) → each (different S) l ≡ true → addAll S ts l ≡ some l′ → each (different S) l′ ≡ true
-  addAll-keys alike ts l l′ h e =
-      addAll-keeps (λ (m : List (S .Term)). each (different S) m ≡ true) (λ t. Unit {0})
-      (λ t m q h r. keys-write alike (S .key t) (added S (S .key t) (S .coefficient t) m) m h)
-      ts l l′ (anything ts) h e
-
-  -- a test of single terms that passes each nonzero sum
-  pub each-addAll : (p : S .Term → Bool) (Q : S .Term → Type 0)
-      → ((t : S .Term) (m : List (S .Term)) → Q t → each (λ x xs. p x) m ≡ true → S .isZero (added S (S .key t) (S .coefficient t) m) ≡ false → p (S .term (S .key t) (added S (S .key t) (S .coefficient t) m)) ≡ true)
-      → (ts l l′ : List (S .Term)) → All Q ts → each (λ x xs. p x) l ≡ true → addAll S ts l ≡ some l′ → each (λ x xs. p x) l′ ≡ true
-  each-addAll p Q step =
-      addAll-keeps (λ (m : List (S .Term)). each (λ x xs. p x) m ≡ true) Q
-      (λ t m q h r. each-write-other p (S .key t) (added S (S .key t) (S .coefficient t) m) m h (step t m q h))
+      ts l l′ (all-of (λ t. Unit {0}) (λ t. tt) ts) h e

@@ -1,9 +1,8 @@
 -- `chain::finished`: a refusal stays, and another chain's terms are judged.
 -- Assumes nothing.
-use mathlib.Core.Path.{sym, _∙_}
-use borrow.Author.Tests.{not-true, not-false}
 use borrow.Author.Needs.{needs}
 use Rattle.complex.specs.Complex.{inRange}
+use Rattle.terms.proofs.BranchLaws.{passed, failed}
 use Rattle.terms.proofs.ChainLaws.{stands-own, finished-refused, finished-out, finished-in}
 use Rattle.noise.specs.Pairs.{pairTerms}
 use Rattle.noise.proofs.SetLaws.{noiseSets}
@@ -21,14 +20,14 @@ all-in-range-requires c κs = stands-own noiseSets _ _ _ (c .before .before .bef
 
 returns : tie.Need-returns
 returns c o h =
-    finished-out pairTerms inRange noiseSets _ _ _ o h (c .before .before .enum-told .given .1) (sym (c .before .all-in-range .ensures) ∙ not-true _ (c .if1 .taken))
+    finished-out pairTerms inRange noiseSets _ _ _ o h (c .before .before .enum-told .given .1) (failed (c .before .all-in-range .ensures) (c .if1 .taken))
 
 returns-2 : tie.Need-returns-2
 returns-2 c o h = finished-refused pairTerms inRange noiseSets _ _ _ o h _ (c .before .outcome .given .1)
 
 returns-3 : tie.Need-returns-3
 returns-3 c o h =
-    finished-in pairTerms inRange noiseSets _ _ _ o h (c .before .before .enum-told .given .1) (sym (c .before .all-in-range .ensures) ∙ not-false _ (c .if1 .left))
+    finished-in pairTerms inRange noiseSets _ _ _ o h (c .before .before .enum-told .given .1) (passed (c .before .all-in-range .ensures) (c .if1 .left))
 
 pub finished-spec : {M : Type 1} → statement M
 finished-spec =

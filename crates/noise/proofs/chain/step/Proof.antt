@@ -1,8 +1,7 @@
 -- `chain::step`: the sum is put under the key, or there is no room for it; a refusal that came before stays.
 -- Assumes nothing.
-use mathlib.Core.Path.{sym, _∙_}
-use borrow.Author.Tests.{not-true, not-false}
 use borrow.Author.Needs.{needs}
+use Rattle.terms.proofs.BranchLaws.{passed, failed}
 use Rattle.terms.proofs.ChainLaws.{stands-own, step-refused, step-full, step-room}
 use Rattle.noise.specs.Pairs.{pairTerms}
 use Rattle.noise.proofs.SetLaws.{noiseSets}
@@ -24,7 +23,7 @@ empty-set-requires c κs = search needs
 returns : tie.Need-returns
 returns c o h =
     let p = c .before .before .before in
-    step-full pairTerms noiseSets _ _ _ o h (p .before .enum-told .given .1) _ (sym (p .put-sum .ensures .0) ∙ not-true _ (c .before .if1 .taken)) (c .empty-set .ensures)
+    step-full pairTerms noiseSets _ _ _ o h (p .before .enum-told .given .1) _ (failed (p .put-sum .ensures .0) (c .before .if1 .taken)) (c .empty-set .ensures)
 
 returns-2 : tie.Need-returns-2
 returns-2 c o h = step-refused pairTerms noiseSets _ _ _ o h _ (c .before .outcome .given .1)
@@ -32,7 +31,7 @@ returns-2 c o h = step-refused pairTerms noiseSets _ _ _ o h _ (c .before .outco
 returns-3 : tie.Need-returns-3
 returns-3 c o h =
     let p = c .before .before .before in
-    step-room pairTerms noiseSets _ _ _ o h (p .before .enum-told .given .1) _ (sym (p .put-sum .ensures .0) ∙ not-false _ (c .before .if1 .left)) (p .put-sum .ensures .1)
+    step-room pairTerms noiseSets _ _ _ o h (p .before .enum-told .given .1) _ (passed (p .put-sum .ensures .0) (c .before .if1 .left)) (p .put-sum .ensures .1)
 
 pub step-spec : {M : Type 1} → statement M
 step-spec =

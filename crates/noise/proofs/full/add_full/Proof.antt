@@ -1,11 +1,12 @@
 -- `full::add_full`: the refusals in their order; then the rows, which are the chain that the definition adds (`rows-end`).
 -- Assumes nothing.
 use mathlib.Core.Bool.{true, false}
-use mathlib.Core.Path.{_≡_, sym, _∙_}
+use mathlib.Core.Path.{_≡_, _∙_}
 use lib.Dec.{eqb}
 use borrow.Author.Needs.{needs}
-use borrow.Author.Tests.{not-true, not-false, eq-eqb, ne-eqb}
+use borrow.Author.Tests.{eq-eqb, ne-eqb}
 use Rattle.complex.specs.Complex.{inRange}
+use Rattle.terms.proofs.BranchLaws.{passed, failed}
 use Rattle.operators.specs.Complexes as operators
 use Rattle.operators.proofs.ValidLaws as operator-laws
 use Rattle.noise.specs.Pairs.{validSet}
@@ -17,13 +18,13 @@ use Rattle.noise.proofs.full.add_full.Tie as tie
 
 -- what the tests passed say
 set-valid : (c : tie.Else1) → validSet (c .before .before .args .s) ≡ true
-set-valid c = sym (c .before .is-valid .ensures) ∙ not-false _ (c .if1 .left)
+set-valid c = passed (c .before .is-valid .ensures) (c .if1 .left)
 
 left-valid : (c : tie.Else2) → operators.validSet false (c .before .before .before .before .args .left) ≡ true
-left-valid c = sym (c .before .is-valid2 .ensures) ∙ not-false _ (c .if2 .left)
+left-valid c = passed (c .before .is-valid2 .ensures) (c .if2 .left)
 
 right-valid : (c : tie.Else3) → operators.validSet false (c .before .before .before .before .before .before .args .right) ≡ true
-right-valid c = sym (c .before .is-valid3 .ensures) ∙ not-false _ (c .if3 .left)
+right-valid c = passed (c .before .is-valid3 .ensures) (c .if3 .left)
 
 left-some : (c : tie.Else4) → eqb (c .before .before .before .before .before .before .before .before .args .left .count) 0 ≡ false
 left-some c = ne-eqb _ _ (c .if4 .left)
@@ -32,25 +33,21 @@ right-some : (c : tie.Else5) → eqb (c .before .before .before .before .before 
 right-some c = ne-eqb _ _ (c .if5 .left)
 
 value-in-range : (c : tie.Else6) → inRange (c .before .before .before .before .before .before .before .before .before .before .before .before .args .value) ≡ true
-value-in-range c = sym (c .before .in-range .ensures) ∙ not-false _ (c .if6 .left)
+value-in-range c = passed (c .before .in-range .ensures) (c .if6 .left)
 
 is-valid-requires : tie.Need-is-valid-requires
 is-valid-requires c κs = search needs
 
 returns : tie.Need-returns
 unfolding addFullOperators
-returns c =
-    let bad = sym (c .before .is-valid .ensures) ∙ not-true _ (c .if1 .taken) in
-    rw bad
+returns c = rw (failed (c .before .is-valid .ensures) (c .if1 .taken))
 
 is-valid-requires-2 : tie.Need-is-valid-requires-2
 is-valid-requires-2 c κs = search needs
 
 returns-2 : tie.Need-returns-2
 unfolding addFullOperators
-returns-2 c =
-    let bad = sym (c .before .is-valid2 .ensures) ∙ not-true _ (c .if2 .taken) in
-    rw (set-valid (c .before .before), bad)
+returns-2 c = rw (set-valid (c .before .before), failed (c .before .is-valid2 .ensures) (c .if2 .taken))
 
 is-valid-requires-3 : tie.Need-is-valid-requires-3
 is-valid-requires-3 c κs = search needs
@@ -59,7 +56,7 @@ returns-3 : tie.Need-returns-3
 unfolding addFullOperators
 returns-3 c =
     let l = c .before .before in
-    let bad = sym (c .before .is-valid3 .ensures) ∙ not-true _ (c .if3 .taken) in
+    let bad = failed (c .before .is-valid3 .ensures) (c .if3 .taken) in
     rw (set-valid (l .before .before), left-valid l, bad)
 
 returns-4 : tie.Need-returns-4
@@ -87,7 +84,7 @@ returns-6 c =
     let p = q .before .before in
     let r = p .before .before in
     let l = r .before .before in
-    let bad = sym (c .before .in-range .ensures) ∙ not-true _ (c .if6 .taken) in
+    let bad = failed (c .before .in-range .ensures) (c .if6 .taken) in
     rw (set-valid (l .before .before), left-valid l, right-valid r, left-some p, right-some q, bad)
 
 add-rows-requires : tie.Need-add-rows-requires

@@ -1,12 +1,13 @@
 -- The refusals in their order; a valid set holds its own terms (`valid-own`), so `put` takes it, and what it holds is what is written.
 use borrow.Author.Needs.{needs}
-use borrow.Author.Tests.{not-true, not-false}
+use borrow.Author.Tests.{not-false}
 use mathlib.Core.Bool.{true, false}
 use mathlib.Core.Path.{_≡_, sym, ap, _∙_}
 use Rattle.refusal.specs.Refusals.{done}
 use Rattle.complex.specs.Complex.{inRange, sumOf}
 use Rattle.complex.specs.declared.Complex.{Complex}
 use Rattle.terms.specs.Setting.{added}
+use Rattle.terms.proofs.BranchLaws.{passed, failed}
 use Rattle.noise.specs.Pairs.{pairTerms, heldBy, validSet}
 use Rattle.noise.specs.Answers.{validKey, emptySide, addPair}
 use Rattle.noise.proofs.SetLaws.{noiseSets}
@@ -17,16 +18,16 @@ use Rattle.noise.proofs.noise_set.add.Tie as tie
 
 -- what the tests passed say
 set-valid : (c : tie.Else1) → validSet (c .before .before .args .s) ≡ true
-set-valid c = sym (c .before .is-valid .ensures) ∙ not-false _ (c .if1 .left)
+set-valid c = passed (c .before .is-valid .ensures) (c .if1 .left)
 
 key-valid : (c : tie.Else2) → validKey (c .before .before .before .before .args .left, c .before .before .before .before .args .right) ≡ true
-key-valid c = sym (c .before .valid-key .ensures) ∙ not-false _ (c .if2 .left)
+key-valid c = passed (c .before .valid-key .ensures) (c .if2 .left)
 
 sides-full : (c : tie.Else3) → emptySide (c .before .before .before .before .before .before .args .left, c .before .before .before .before .before .before .args .right) ≡ false
 sides-full c = sym (c .before .empty-side .ensures) ∙ c .if3 .left
 
 value-in-range : (c : tie.Else4) → inRange (c .before .before .before .before .before .before .before .before .args .value) ≡ true
-value-in-range c = sym (c .before .in-range .ensures) ∙ not-false _ (c .if4 .left)
+value-in-range c = passed (c .before .in-range .ensures) (c .if4 .left)
 
 -- the sum is the coefficient that the key gets
 is-sum : (c : tie.After-sum) → let a = c .before .before .before .before .before .before .before .before .before .before .args in added pairTerms (a .left, a .right) (a .value) (heldBy (a .s)) ≡ c .sum .result
@@ -40,18 +41,14 @@ is-valid-requires c κs = search needs
 
 returns : tie.Need-returns
 unfolding addPair
-returns c =
-    let bad = sym (c .before .is-valid .ensures) ∙ not-true _ (c .if1 .taken) in
-    rw bad
+returns c = rw (failed (c .before .is-valid .ensures) (c .if1 .taken))
 
 valid-key-requires : tie.Need-valid-key-requires
 valid-key-requires c κs = search needs
 
 returns-2 : tie.Need-returns-2
 unfolding addPair
-returns-2 c =
-    let bad = sym (c .before .valid-key .ensures) ∙ not-true _ (c .if2 .taken) in
-    rw (set-valid (c .before .before), bad)
+returns-2 c = rw (set-valid (c .before .before), failed (c .before .valid-key .ensures) (c .if2 .taken))
 
 empty-side-requires : tie.Need-empty-side-requires
 empty-side-requires c κs = search needs
@@ -71,7 +68,7 @@ unfolding addPair
 returns-4 c =
     let e = c .before .before in
     let k = e .before .before in
-    let bad = sym (c .before .in-range .ensures) ∙ not-true _ (c .if4 .taken) in
+    let bad = failed (c .before .in-range .ensures) (c .if4 .taken) in
     rw (set-valid (k .before .before), key-valid k, sides-full e, bad)
 
 coefficient-at-requires : tie.Need-coefficient-at-requires
@@ -90,7 +87,7 @@ returns-5 c =
     let v = m .before .before in
     let e = v .before .before in
     let k = e .before .before in
-    let full = sym (c .before .before .put .ensures .0) ∙ not-true _ (c .if5 .taken) in
+    let full = failed (c .before .before .put .ensures .0) (c .if5 .taken) in
     rw (set-valid (k .before .before), key-valid k, sides-full e, value-in-range v, is-sum m, full)
 
 in-range-requires-2 : tie.Need-in-range-requires-2
@@ -104,8 +101,8 @@ returns-6 c =
     let v = m .before .before in
     let e = v .before .before in
     let k = e .before .before in
-    let room = sym (r .before .before .put .ensures .0) ∙ not-false _ (r .if5 .left) in
-    let bad = sym (c .before .in-range2 .ensures) ∙ not-true _ (c .if6 .taken) in
+    let room = passed (r .before .before .put .ensures .0) (r .if5 .left) in
+    let bad = failed (c .before .in-range2 .ensures) (c .if6 .taken) in
     rw (set-valid (k .before .before), key-valid k, sides-full e, value-in-range v, is-sum m, room, bad)
 
 returns-7 : tie.Need-returns-7
@@ -118,8 +115,8 @@ returns-7 c =
     let v = m .before .before in
     let e = v .before .before in
     let k = e .before .before in
-    let room = sym (p .put .ensures .0) ∙ not-false _ (r .if5 .left) in
-    let ok = sym (q .before .in-range2 .ensures) ∙ not-false _ (q .if6 .left) in
+    let room = passed (p .put .ensures .0) (r .if5 .left) in
+    let ok = passed (q .before .in-range2 .ensures) (q .if6 .left) in
     let a = k .before .before .before .before .args in
     let after = puts-written pairTerms noiseSets (a .left, a .right) (m .sum .result) (a .s .count) (a .s .terms) (p .put .ensures) (not-false _ (r .if5 .left)) in
     rw (set-valid (k .before .before), key-valid k, sides-full e, value-in-range v, is-sum m, room, ok) (λ j. (done, after j))

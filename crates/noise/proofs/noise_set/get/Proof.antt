@@ -1,9 +1,9 @@
 -- The refusals in their order; a valid set has a count that the search may take (`valid-count`).
 use borrow.Author.Needs.{needs}
-use borrow.Author.Tests.{not-true, not-false}
 use mathlib.Core.Bool.{true, false}
 use mathlib.Core.Path.{_≡_, sym, ap, _∙_}
 use Rattle.refusal.specs.Refusals.{gives}
+use Rattle.terms.proofs.BranchLaws.{passed, failed}
 use Rattle.noise.specs.Pairs.{validSet}
 use Rattle.noise.specs.Answers.{validKey, emptySide, getPair}
 use Rattle.noise.proofs.ValidLaws.{valid-count}
@@ -12,10 +12,10 @@ use Rattle.noise.proofs.noise_set.get.Tie as tie
 
 -- what the tests passed say
 set-valid : (c : tie.Else1) → validSet (c .before .before .args .s) ≡ true
-set-valid c = sym (c .before .is-valid .ensures) ∙ not-false _ (c .if1 .left)
+set-valid c = passed (c .before .is-valid .ensures) (c .if1 .left)
 
 key-valid : (c : tie.Else2) → validKey (c .before .before .before .before .args .left, c .before .before .before .before .args .right) ≡ true
-key-valid c = sym (c .before .valid-key .ensures) ∙ not-false _ (c .if2 .left)
+key-valid c = passed (c .before .valid-key .ensures) (c .if2 .left)
 
 sides-full : (c : tie.Else3) → emptySide (c .before .before .before .before .before .before .args .left, c .before .before .before .before .before .before .args .right) ≡ false
 sides-full c = sym (c .before .empty-side .ensures) ∙ c .if3 .left
@@ -25,18 +25,14 @@ is-valid-requires c κs = search needs
 
 returns : tie.Need-returns
 unfolding getPair
-returns c =
-    let bad = sym (c .before .is-valid .ensures) ∙ not-true _ (c .if1 .taken) in
-    rw bad
+returns c = rw (failed (c .before .is-valid .ensures) (c .if1 .taken))
 
 valid-key-requires : tie.Need-valid-key-requires
 valid-key-requires c κs = search needs
 
 returns-2 : tie.Need-returns-2
 unfolding getPair
-returns-2 c =
-    let bad = sym (c .before .valid-key .ensures) ∙ not-true _ (c .if2 .taken) in
-    rw (set-valid (c .before .before), bad)
+returns-2 c = rw (set-valid (c .before .before), failed (c .before .valid-key .ensures) (c .if2 .taken))
 
 empty-side-requires : tie.Need-empty-side-requires
 empty-side-requires c κs = search needs

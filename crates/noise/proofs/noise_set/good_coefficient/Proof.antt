@@ -1,7 +1,6 @@
 -- The range decides first, then whether it is zero.
-use mathlib.Core.Path.{sym, _∙_}
 use borrow.Author.Needs.{needs}
-use borrow.Author.Tests.{not-true, not-false}
+use Rattle.terms.proofs.BranchLaws.{passed, failed}
 use Rattle.noise.proofs.noise_set.good_coefficient.Statement.{statement}
 use Rattle.noise.proofs.noise_set.good_coefficient.Tie as tie
 
@@ -10,7 +9,7 @@ in-range-requires c κs = search needs
 
 returns : tie.Need-returns
 returns c =
-    let out = sym (c .before .in-range .ensures) ∙ not-true _ (c .if1 .taken) in
+    let out = failed (c .before .in-range .ensures) (c .if1 .taken) in
     rw out
 
 is-zero-requires : tie.Need-is-zero-requires
@@ -18,7 +17,7 @@ is-zero-requires c κs = search needs
 
 returns-2 : tie.Need-returns-2
 returns-2 c =
-    let within = sym (c .before .before .in-range .ensures) ∙ not-false _ (c .before .if1 .left) in
+    let within = passed (c .before .before .in-range .ensures) (c .before .if1 .left) in
     rw (within, c .is-zero .ensures)
 
 pub good-coefficient-spec : {M : Type 1} → statement M

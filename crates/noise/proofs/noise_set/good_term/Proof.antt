@@ -3,7 +3,7 @@
 use mathlib.Core.Path.{_≡_, sym, _∙_}
 use lib.ListN.{length, length-map}
 use borrow.Author.Needs.{needs}
-use borrow.Author.Tests.{not-true, not-false}
+use Rattle.terms.proofs.BranchLaws.{passed, failed}
 use Rattle.terms.proofs.ValidSetLaws.{bad-key, bad-coefficient, by-key}
 use Rattle.noise.proofs.ValidLaws.{validNoiseSets, key-not-valid, key-empty, key-good}
 use Rattle.noise.proofs.noise_set.good_term.Statement.{statement}
@@ -24,7 +24,7 @@ valid-key-requires c κs = search needs
 returns : tie.Need-returns
 returns c =
     let b = c .before .before .before .before .before .before in
-    bad-key validNoiseSets (b .args .t1) (b .args .i) _ (whole b) (b .pre .0) (b .pre .1) (key-not-valid _ (sym (c .before .valid-key .ensures) ∙ not-true _ (c .if1 .taken)))
+    bad-key validNoiseSets (b .args .t1) (b .args .i) _ (whole b) (b .pre .0) (b .pre .1) (key-not-valid _ (failed (c .before .valid-key .ensures) (c .if1 .taken)))
 
 empty-side-requires : tie.Need-empty-side-requires
 empty-side-requires c κs = search needs
@@ -32,7 +32,7 @@ empty-side-requires c κs = search needs
 returns-2 : tie.Need-returns-2
 returns-2 c =
     let b = c .before .before .before .before .before .before .before .before in
-    let v = sym (c .before .before .before .valid-key .ensures) ∙ not-false _ (c .before .before .if1 .left) in
+    let v = passed (c .before .before .before .valid-key .ensures) (c .before .before .if1 .left) in
     bad-key validNoiseSets (b .args .t1) (b .args .i) _ (whole b) (b .pre .0) (b .pre .1) (key-empty _ v (sym (c .before .empty-side .ensures) ∙ c .if2 .taken))
 
 good-coefficient-requires : tie.Need-good-coefficient-requires
@@ -41,7 +41,7 @@ good-coefficient-requires c κs = search needs
 returns-3 : tie.Need-returns-3
 returns-3 c =
     let b = c .before .before .before .before .before .before .before .before .before .before in
-    bad-coefficient validNoiseSets (b .args .t1) (b .args .i) _ (whole b) (b .pre .0) (b .pre .1) (sym (c .before .good-coefficient .ensures) ∙ not-true _ (c .if3 .taken))
+    bad-coefficient validNoiseSets (b .args .t1) (b .args .i) _ (whole b) (b .pre .0) (b .pre .1) (failed (c .before .good-coefficient .ensures) (c .if3 .taken))
 
 add-find-from : tie.Need-add-find-from
 add-find-from c = search needs
@@ -55,9 +55,9 @@ returns-4 c =
     let e = g .before .before in
     let k = e .before .before in
     let b = k .before .before .before .before .before .before in
-    let v = sym (k .before .valid-key .ensures) ∙ not-false _ (k .if1 .left) in
+    let v = passed (k .before .valid-key .ensures) (k .if1 .left) in
     let full = sym (e .before .empty-side .ensures) ∙ e .if2 .left in
-    let a = sym (g .before .good-coefficient .ensures) ∙ not-false _ (g .if3 .left) in
+    let a = passed (g .before .good-coefficient .ensures) (g .if3 .left) in
     by-key validNoiseSets (b .args .t1) (b .args .i) _ (whole b) (b .pre .0) (b .pre .1) (key-good _ v full) a (c .find-from .result) (c .find-from .ensures)
 
 pub good-term-spec : {M : Type 1} → statement M

@@ -1,10 +1,11 @@
 -- The refusals in their order; a valid set holds its own terms (`valid-own`), so `put` takes it, and what it holds is what is written.
 use borrow.Author.Needs.{needs}
-use borrow.Author.Tests.{not-true, not-false}
+use borrow.Author.Tests.{not-false}
 use mathlib.Core.Bool.{true, false}
 use mathlib.Core.Path.{_≡_, sym, _∙_}
 use Rattle.complex.specs.Complex.{inRange}
 use Rattle.terms.specs.Setting.{hasRoom}
+use Rattle.terms.proofs.BranchLaws.{passed, failed}
 use Rattle.noise.specs.Pairs.{pairTerms, heldBy, validSet}
 use Rattle.noise.specs.Answers.{validKey, emptySide, setPair}
 use Rattle.noise.proofs.SetLaws.{noiseSets}
@@ -15,37 +16,33 @@ use Rattle.noise.proofs.noise_set.set.Tie as tie
 
 -- what the tests passed say
 set-valid : (c : tie.Else1) → validSet (c .before .before .args .s) ≡ true
-set-valid c = sym (c .before .is-valid .ensures) ∙ not-false _ (c .if1 .left)
+set-valid c = passed (c .before .is-valid .ensures) (c .if1 .left)
 
 key-valid : (c : tie.Else2) → validKey (c .before .before .before .before .args .left, c .before .before .before .before .args .right) ≡ true
-key-valid c = sym (c .before .valid-key .ensures) ∙ not-false _ (c .if2 .left)
+key-valid c = passed (c .before .valid-key .ensures) (c .if2 .left)
 
 sides-full : (c : tie.Else3) → emptySide (c .before .before .before .before .before .before .args .left, c .before .before .before .before .before .before .args .right) ≡ false
 sides-full c = sym (c .before .empty-side .ensures) ∙ c .if3 .left
 
 value-in-range : (c : tie.Else4) → inRange (c .before .before .before .before .before .before .before .before .args .value) ≡ true
-value-in-range c = sym (c .before .in-range .ensures) ∙ not-false _ (c .if4 .left)
+value-in-range c = passed (c .before .in-range .ensures) (c .if4 .left)
 
 room : (c : tie.Else5) → let a = c .before .before .before .before .before .before .before .before .before .before .before .args in hasRoom pairTerms (a .left, a .right) (a .value) (heldBy (a .s)) ≡ true
-room c = sym (c .before .before .put .ensures .0) ∙ not-false _ (c .if5 .left)
+room c = passed (c .before .before .put .ensures .0) (c .if5 .left)
 
 is-valid-requires : tie.Need-is-valid-requires
 is-valid-requires c κs = search needs
 
 returns : tie.Need-returns
 unfolding setPair
-returns c =
-    let bad = sym (c .before .is-valid .ensures) ∙ not-true _ (c .if1 .taken) in
-    rw bad
+returns c = rw (failed (c .before .is-valid .ensures) (c .if1 .taken))
 
 valid-key-requires : tie.Need-valid-key-requires
 valid-key-requires c κs = search needs
 
 returns-2 : tie.Need-returns-2
 unfolding setPair
-returns-2 c =
-    let bad = sym (c .before .valid-key .ensures) ∙ not-true _ (c .if2 .taken) in
-    rw (set-valid (c .before .before), bad)
+returns-2 c = rw (set-valid (c .before .before), failed (c .before .valid-key .ensures) (c .if2 .taken))
 
 empty-side-requires : tie.Need-empty-side-requires
 empty-side-requires c κs = search needs
@@ -65,7 +62,7 @@ unfolding setPair
 returns-4 c =
     let e = c .before .before in
     let k = e .before .before in
-    let bad = sym (c .before .in-range .ensures) ∙ not-true _ (c .if4 .taken) in
+    let bad = failed (c .before .in-range .ensures) (c .if4 .taken) in
     rw (set-valid (k .before .before), key-valid k, sides-full e, bad)
 
 put-requires : tie.Need-put-requires
@@ -77,7 +74,7 @@ returns-5 c =
     let v = c .before .before .before in
     let e = v .before .before in
     let k = e .before .before in
-    let full = sym (c .before .before .put .ensures .0) ∙ not-true _ (c .if5 .taken) in
+    let full = failed (c .before .before .put .ensures .0) (c .if5 .taken) in
     rw (set-valid (k .before .before), key-valid k, sides-full e, value-in-range v, full)
 
 was-requires : tie.Need-was-requires

@@ -1,9 +1,9 @@
 -- `remap::remap_qubits`: a valid set's terms, moved one after the other, as the chain ends (`remap-end`).
 -- Assumes nothing.
-use mathlib.Core.Path.{sym, _∙_}
+use mathlib.Core.Path.{_∙_}
 use borrow.Author.Needs.{needs}
-use borrow.Author.Tests.{not-true, not-false}
 use Rattle.products.specs.Lists.{at}
+use Rattle.terms.proofs.BranchLaws.{passed, failed}
 use Rattle.noise.specs.Answers.{remapSet}
 use Rattle.noise.proofs.ValidLaws.{valid-count}
 use Rattle.noise.proofs.RemapLaws.{remap-end}
@@ -15,12 +15,10 @@ is-valid-requires c κs = search needs
 
 returns : tie.Need-returns
 unfolding remapSet
-returns c =
-    let bad = sym (c .before .is-valid .ensures) ∙ not-true _ (c .if1 .taken) in
-    rw bad
+returns c = rw (failed (c .before .is-valid .ensures) (c .if1 .taken))
 
 remap-all-requires : tie.Need-remap-all-requires
-remap-all-requires c κs = valid-count _ (sym (c .before .is-valid .ensures) ∙ not-false _ (c .if1 .left))
+remap-all-requires c κs = valid-count _ (passed (c .before .is-valid .ensures) (c .if1 .left))
 
 finished-requires : tie.Need-finished-requires
 finished-requires c κs = record { state = _; is = c .remap-all .ensures }
@@ -30,7 +28,7 @@ unfolding remapSet
 returns-2 c =
     let v = c .before .before in
     let a = v .before .before .args in
-    let good = sym (v .before .is-valid .ensures) ∙ not-false _ (v .if1 .left) in
+    let good = passed (v .before .is-valid .ensures) (v .if1 .left) in
     rw good (c .finished .ensures _ (c .before .remap-all .ensures) ∙ remap-end (at (a .targets)) (a .s))
 
 pub remap-qubits-spec : {M : Type 1} → statement M

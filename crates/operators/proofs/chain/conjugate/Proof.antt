@@ -1,8 +1,7 @@
 -- `chain::conjugate`: the conjugates of a valid set's terms, as a chain answers them.
 -- Assumes nothing.
-use mathlib.Core.Path.{sym, _∙_}
-use borrow.Author.Tests.{not-true, not-false}
 use borrow.Author.Needs.{needs}
+use Rattle.terms.proofs.BranchLaws.{passed, failed}
 use Rattle.operators.specs.Answers.{conjugateSet}
 use Rattle.operators.proofs.ValidLaws.{valid-own}
 use Rattle.operators.proofs.chain.conjugate.Statement.{statement}
@@ -13,10 +12,10 @@ is-valid-requires c κs = search needs
 
 returns : tie.Need-returns
 unfolding conjugateSet
-returns c = let bad = sym (c .before .is-valid .ensures) ∙ not-true _ (c .if1 .taken) in rw bad
+returns c = rw (failed (c .before .is-valid .ensures) (c .if1 .taken))
 
 conjugated-requires : tie.Need-conjugated-requires
-conjugated-requires c κs = valid-own _ _ (sym (c .before .is-valid .ensures) ∙ not-false _ (c .if1 .left))
+conjugated-requires c κs = valid-own _ _ (passed (c .before .is-valid .ensures) (c .if1 .left))
 
 finished-requires : tie.Need-finished-requires
 finished-requires c κs = record { terms = _; is = c .conjugated .ensures }
@@ -24,7 +23,7 @@ finished-requires c κs = record { terms = _; is = c .conjugated .ensures }
 returns-2 : tie.Need-returns-2
 unfolding conjugateSet
 returns-2 c =
-    let good = sym (c .before .before .before .is-valid .ensures) ∙ not-false _ (c .before .before .if1 .left) in
+    let good = passed (c .before .before .before .is-valid .ensures) (c .before .before .if1 .left) in
     rw good (c .finished .ensures _ (c .before .conjugated .ensures))
 
 pub conjugate-spec : {M : Type 1} → statement M

@@ -1,8 +1,7 @@
 -- `chain::convert`: the terms of a valid set in the other letters, as a chain answers them; the empty set stands beside a refusal.
 -- Assumes nothing.
-use mathlib.Core.Path.{sym, _∙_}
-use borrow.Author.Tests.{not-true, not-false}
 use borrow.Author.Needs.{needs}
+use Rattle.terms.proofs.BranchLaws.{passed, failed}
 use Rattle.operators.specs.Answers.{convertSet}
 use Rattle.operators.proofs.ValidLaws.{valid-own}
 use Rattle.operators.proofs.chain.convert.Statement.{statement}
@@ -17,11 +16,11 @@ empty-set-requires c κs = search needs
 returns : tie.Need-returns
 unfolding convertSet
 returns c =
-    let bad = sym (c .before .before .is-valid .ensures) ∙ not-true _ (c .before .if1 .taken) in
+    let bad = failed (c .before .before .is-valid .ensures) (c .before .if1 .taken) in
     rw (bad, c .empty-set .ensures)
 
 converted-requires : tie.Need-converted-requires
-converted-requires c κs = valid-own _ _ (sym (c .before .is-valid .ensures) ∙ not-false _ (c .if1 .left))
+converted-requires c κs = valid-own _ _ (passed (c .before .is-valid .ensures) (c .if1 .left))
 
 empty-set-requires-2 : tie.Need-empty-set-requires-2
 empty-set-requires-2 c κs = search needs
@@ -32,7 +31,7 @@ finished-requires c κs = record { terms = _; is = c .before .converted .ensures
 returns-2 : tie.Need-returns-2
 unfolding convertSet
 returns-2 c =
-    let good = sym (c .before .before .before .before .is-valid .ensures) ∙ not-false _ (c .before .before .before .if1 .left) in
+    let good = passed (c .before .before .before .before .is-valid .ensures) (c .before .before .before .if1 .left) in
     rw (good, ← c .before .empty-set2 .ensures) (c .finished .ensures _ (c .before .before .converted .ensures))
 
 pub convert-spec : {M : Type 1} → statement M

@@ -1,9 +1,8 @@
 -- `chain::finished`: a refused chain was full, and another one's terms are judged.
 -- Assumes nothing.
-use mathlib.Core.Path.{sym, _∙_}
-use borrow.Author.Tests.{not-true, not-false}
 use borrow.Author.Needs.{needs}
 use Rattle.complex.specs.Complex.{inRange}
+use Rattle.terms.proofs.BranchLaws.{passed, failed}
 use Rattle.terms.proofs.ChainLaws.{finished-refused, finished-out, finished-in}
 use Rattle.operators.specs.Complexes.{complexTerms}
 use Rattle.operators.proofs.SetLaws.{termSets}
@@ -22,14 +21,14 @@ all-in-range-requires c κs = chain-own _ (c .before .before .before .pre)
 
 returns : tie.Need-returns
 returns c ts h =
-    ends _ ts (finished-out complexTerms inRange termSets _ _ _ _ (after-stands _ ts h) (c .before .before .enum-told .given .1) (sym (c .before .all-in-range .ensures) ∙ not-true _ (c .if1 .taken)))
+    ends _ ts (finished-out complexTerms inRange termSets _ _ _ _ (after-stands _ ts h) (c .before .before .enum-told .given .1) (failed (c .before .all-in-range .ensures) (c .if1 .taken)))
 
 returns-2 : tie.Need-returns-2
 returns-2 c ts h = ends _ ts (finished-refused complexTerms inRange termSets _ _ _ _ (after-stands _ ts h) _ (c .before .outcome .given .1))
 
 returns-3 : tie.Need-returns-3
 returns-3 c ts h =
-    ends _ ts (finished-in complexTerms inRange termSets _ _ _ _ (after-stands _ ts h) (c .before .before .enum-told .given .1) (sym (c .before .all-in-range .ensures) ∙ not-false _ (c .if1 .left)))
+    ends _ ts (finished-in complexTerms inRange termSets _ _ _ _ (after-stands _ ts h) (c .before .before .enum-told .given .1) (passed (c .before .all-in-range .ensures) (c .if1 .left)))
 
 pub finished-spec : {M : Type 1} → statement M
 finished-spec =

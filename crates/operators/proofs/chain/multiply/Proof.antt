@@ -1,8 +1,7 @@
 -- `chain::multiply`: the products of two valid sets' terms, as a chain answers them.
 -- Assumes nothing.
-use mathlib.Core.Path.{sym, _∙_}
-use borrow.Author.Tests.{not-true, not-false}
 use borrow.Author.Needs.{needs}
+use Rattle.terms.proofs.BranchLaws.{passed, failed}
 use Rattle.operators.specs.Answers.{multiplySets}
 use Rattle.operators.proofs.ValidLaws.{valid-own}
 use Rattle.operators.proofs.chain.multiply.Statement.{statement}
@@ -13,7 +12,7 @@ is-valid-requires c κs = search needs
 
 returns : tie.Need-returns
 unfolding multiplySets
-returns c = let bad = sym (c .before .is-valid .ensures) ∙ not-true _ (c .if1 .taken) in rw bad
+returns c = rw (failed (c .before .is-valid .ensures) (c .if1 .taken))
 
 is-valid-requires-2 : tie.Need-is-valid-requires-2
 is-valid-requires-2 c κs = search needs
@@ -21,14 +20,14 @@ is-valid-requires-2 c κs = search needs
 returns-2 : tie.Need-returns-2
 unfolding multiplySets
 returns-2 c =
-    let good = sym (c .before .before .before .is-valid .ensures) ∙ not-false _ (c .before .before .if1 .left) in
-    let bad = sym (c .before .is-valid2 .ensures) ∙ not-true _ (c .if2 .taken) in
+    let good = passed (c .before .before .before .is-valid .ensures) (c .before .before .if1 .left) in
+    let bad = failed (c .before .is-valid2 .ensures) (c .if2 .taken) in
     rw (good, bad)
 
 multiplied-requires : tie.Need-multiplied-requires
 multiplied-requires c κs = (
-  valid-own _ _ (sym (c .before .before .before .is-valid .ensures) ∙ not-false _ (c .before .before .if1 .left)),
-  valid-own _ _ (sym (c .before .is-valid2 .ensures) ∙ not-false _ (c .if2 .left)),
+  valid-own _ _ (passed (c .before .before .before .is-valid .ensures) (c .before .before .if1 .left)),
+  valid-own _ _ (passed (c .before .is-valid2 .ensures) (c .if2 .left)),
 )
 
 finished-requires : tie.Need-finished-requires
@@ -38,8 +37,8 @@ returns-3 : tie.Need-returns-3
 unfolding multiplySets
 returns-3 c =
     let two = c .before .before in
-    let good = sym (two .before .before .before .is-valid .ensures) ∙ not-false _ (two .before .before .if1 .left) in
-    let good2 = sym (two .before .is-valid2 .ensures) ∙ not-false _ (two .if2 .left) in
+    let good = passed (two .before .before .before .is-valid .ensures) (two .before .before .if1 .left) in
+    let good2 = passed (two .before .is-valid2 .ensures) (two .if2 .left) in
     rw (good, good2) (c .finished .ensures _ (c .before .multiplied .ensures))
 
 pub multiply-spec : {M : Type 1} → statement M

@@ -1,9 +1,8 @@
 -- `chain::scale`: a valid set's terms are scaled in their places, and then judged.
 -- Assumes nothing.
-use mathlib.Core.Path.{sym, _∙_}
-use borrow.Author.Tests.{not-true, not-false}
 use borrow.Author.Needs.{needs}
 use Rattle.complex.specs.Complex.{inRange}
+use Rattle.terms.proofs.BranchLaws.{passed, failed}
 use Rattle.operators.specs.Complexes.{complexTerms}
 use Rattle.operators.specs.Answers.{scaleSet}
 use Rattle.terms.proofs.FilledLaws.{own-from}
@@ -19,7 +18,7 @@ is-valid-requires c κs = search needs
 
 returns : tie.Need-returns
 unfolding scaleSet
-returns c = let bad = sym (c .before .is-valid .ensures) ∙ not-true _ (c .if1 .taken) in rw bad
+returns c = rw (failed (c .before .is-valid .ensures) (c .if1 .taken))
 
 in-range-requires : tie.Need-in-range-requires
 in-range-requires c κs = search needs
@@ -27,12 +26,12 @@ in-range-requires c κs = search needs
 returns-2 : tie.Need-returns-2
 unfolding scaleSet
 returns-2 c =
-    let good = sym (c .before .before .before .is-valid .ensures) ∙ not-false _ (c .before .before .if1 .left) in
-    let bad = sym (c .before .in-range .ensures) ∙ not-true _ (c .if2 .taken) in
+    let good = passed (c .before .before .before .is-valid .ensures) (c .before .before .if1 .left) in
+    let bad = failed (c .before .in-range .ensures) (c .if2 .taken) in
     rw (good, bad)
 
 scaled-requires : tie.Need-scaled-requires
-scaled-requires c κs = valid-own _ _ (sym (c .before .before .before .is-valid .ensures) ∙ not-false _ (c .before .before .if1 .left))
+scaled-requires c κs = valid-own _ _ (passed (c .before .before .before .is-valid .ensures) (c .before .before .if1 .left))
 
 all-in-range-requires : tie.Need-all-in-range-requires
 all-in-range-requires c κs = own-from termSets _ _ (c .scaled .ensures)
@@ -41,18 +40,18 @@ returns-3 : tie.Need-returns-3
 unfolding scaleSet
 returns-3 c =
     let two = c .before .before .before in
-    let good = sym (two .before .before .before .is-valid .ensures) ∙ not-false _ (two .before .before .if1 .left) in
-    let small = sym (two .before .in-range .ensures) ∙ not-false _ (two .if2 .left) in
-    let bad = filled-range _ _ _ (c .before .before .scaled .ensures) (sym (c .before .all-in-range .ensures) ∙ not-true _ (c .if3 .taken)) in
+    let good = passed (two .before .before .before .is-valid .ensures) (two .before .before .if1 .left) in
+    let small = passed (two .before .in-range .ensures) (two .if2 .left) in
+    let bad = filled-range _ _ _ (c .before .before .scaled .ensures) (failed (c .before .all-in-range .ensures) (c .if3 .taken)) in
     rw (good, small) (finally-out complexTerms inRange termSets _ _ bad)
 
 returns-4 : tie.Need-returns-4
 unfolding scaleSet
 returns-4 c =
     let two = c .before .before .before in
-    let good = sym (two .before .before .before .is-valid .ensures) ∙ not-false _ (two .before .before .if1 .left) in
-    let small = sym (two .before .in-range .ensures) ∙ not-false _ (two .if2 .left) in
-    let fine = filled-range _ _ _ (c .before .before .scaled .ensures) (sym (c .before .all-in-range .ensures) ∙ not-false _ (c .if3 .left)) in
+    let good = passed (two .before .before .before .is-valid .ensures) (two .before .before .if1 .left) in
+    let small = passed (two .before .in-range .ensures) (two .if2 .left) in
+    let fine = filled-range _ _ _ (c .before .before .scaled .ensures) (passed (c .before .all-in-range .ensures) (c .if3 .left)) in
     rw (good, small) (finally-in complexTerms inRange termSets _ _ _ (c .before .before .scaled .ensures) fine)
 
 pub scale-spec : {M : Type 1} → statement M

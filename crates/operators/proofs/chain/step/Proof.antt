@@ -1,8 +1,7 @@
 -- `chain::step`: the sum is put under the key, or there is no room for it; a refusal that came before stays.
 -- Assumes nothing.
-use mathlib.Core.Path.{sym, _∙_}
-use borrow.Author.Tests.{not-true, not-false}
 use borrow.Author.Needs.{needs}
+use Rattle.terms.proofs.BranchLaws.{passed, failed}
 use Rattle.operators.proofs.ChainLaws.{chain-few, chain-own, step-refused, step-full, step-room}
 use Rattle.operators.proofs.chain.step.Statement.{statement}
 use Rattle.operators.proofs.chain.step.Tie as tie
@@ -28,7 +27,7 @@ empty-set-requires c κs = search needs
 returns : tie.Need-returns
 returns c ts h =
     let p = c .before .before .before in
-    step-full _ _ _ ts h _ _ (p .before .before .coefficient-at .ensures) (p .before .sum .ensures) (p .before .before .before .enum-told .given .1) _ (sym (p .put .ensures .0) ∙ not-true _ (c .before .if1 .taken)) (c .empty-set .ensures)
+    step-full _ _ _ ts h _ _ (p .before .before .coefficient-at .ensures) (p .before .sum .ensures) (p .before .before .before .enum-told .given .1) _ (failed (p .put .ensures .0) (c .before .if1 .taken)) (c .empty-set .ensures)
 
 returns-2 : tie.Need-returns-2
 returns-2 c ts h = step-refused _ _ _ ts h _ (c .before .outcome .given .1)
@@ -36,7 +35,7 @@ returns-2 c ts h = step-refused _ _ _ ts h _ (c .before .outcome .given .1)
 returns-3 : tie.Need-returns-3
 returns-3 c ts h =
     let p = c .before .before .before in
-    step-room _ _ _ ts h _ _ (p .before .before .coefficient-at .ensures) (p .before .sum .ensures) (p .before .before .before .enum-told .given .1) _ (sym (p .put .ensures .0) ∙ not-false _ (c .before .if1 .left)) (p .put .ensures .1)
+    step-room _ _ _ ts h _ _ (p .before .before .coefficient-at .ensures) (p .before .sum .ensures) (p .before .before .before .enum-told .given .1) _ (passed (p .put .ensures .0) (c .before .if1 .left)) (p .put .ensures .1)
 
 pub step-spec : {M : Type 1} → statement M
 step-spec =

@@ -1,8 +1,7 @@
 -- `hamiltonian_product::convert`: the terms of a valid Hamiltonian, as a chain answers them; the empty set stands beside a refusal.
 -- Assumes nothing.
-use mathlib.Core.Path.{sym, _∙_}
-use borrow.Author.Tests.{not-true, not-false}
 use borrow.Author.Needs.{needs}
+use Rattle.terms.proofs.BranchLaws.{passed, failed}
 use Rattle.operators.specs.RealAnswers.{intoOperator}
 use Rattle.terms.proofs.FilledLaws.{own-from}
 use Rattle.operators.proofs.SetLaws.{termSets}
@@ -19,7 +18,7 @@ empty-set-requires c κs = search needs
 returns : tie.Need-returns
 unfolding intoOperator
 returns c =
-    let bad = sym (c .before .before .is-valid .ensures) ∙ not-true _ (c .before .if1 .taken) in
+    let bad = failed (c .before .before .is-valid .ensures) (c .before .if1 .taken) in
     rw (bad, c .empty-set .ensures)
 
 complex-terms-requires : tie.Need-complex-terms-requires
@@ -38,7 +37,7 @@ returns-2 : tie.Need-returns-2
 unfolding intoOperator
 returns-2 c =
     let made = c .before .before .before in
-    let good = sym (made .before .before .is-valid .ensures) ∙ not-false _ (made .before .if1 .left) in
+    let good = passed (made .before .before .is-valid .ensures) (made .before .if1 .left) in
     rw (good, ← c .before .empty-set2 .ensures) (c .finished .ensures _ (unchanged-of _ _ _ (made .complex-terms .ensures) (c .before .before .added-again .ensures)))
 
 pub convert-spec : {M : Type 1} → statement M

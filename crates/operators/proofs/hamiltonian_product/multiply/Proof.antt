@@ -1,9 +1,8 @@
 -- `hamiltonian_product::multiply`: the products of two valid Hamiltonians' terms, as a chain answers them; the empty set stands beside a refusal.
 -- Assumes nothing.
-use mathlib.Core.Path.{sym, _∙_}
-use borrow.Author.Tests.{not-true, not-false}
 use borrow.Author.Needs.{needs}
 use Rattle.letters.specs.Matrices.{lettersOf}
+use Rattle.terms.proofs.BranchLaws.{passed, failed}
 use Rattle.operators.specs.RealAnswers.{multiplyReals}
 use Rattle.terms.proofs.FilledLaws.{own-from}
 use Rattle.operators.proofs.SetLaws.{termSets}
@@ -20,7 +19,7 @@ empty-set-requires c κs = search needs
 returns : tie.Need-returns
 unfolding multiplyReals
 returns c =
-    let bad = sym (c .before .before .is-valid .ensures) ∙ not-true _ (c .before .if1 .taken) in
+    let bad = failed (c .before .before .is-valid .ensures) (c .before .if1 .taken) in
     rw (bad, c .empty-set .ensures)
 
 is-valid-requires-2 : tie.Need-is-valid-requires-2
@@ -33,8 +32,8 @@ returns-2 : tie.Need-returns-2
 unfolding multiplyReals
 returns-2 c =
     let one = c .before .before .before in
-    let good = sym (one .before .is-valid .ensures) ∙ not-false _ (one .if1 .left) in
-    let bad = sym (c .before .before .is-valid2 .ensures) ∙ not-true _ (c .before .if2 .taken) in
+    let good = passed (one .before .is-valid .ensures) (one .if1 .left) in
+    let bad = failed (c .before .before .is-valid2 .ensures) (c .before .if2 .taken) in
     rw (good, bad, c .empty-set2 .ensures)
 
 complex-terms-requires : tie.Need-complex-terms-requires
@@ -58,8 +57,8 @@ returns-3 c =
     let made = c .before .before .before in
     let two = made .before .before in
     let one = two .before .before in
-    let good = sym (one .before .is-valid .ensures) ∙ not-false _ (one .if1 .left) in
-    let good2 = sym (two .before .is-valid2 .ensures) ∙ not-false _ (two .if2 .left) in
+    let good = passed (one .before .is-valid .ensures) (one .if1 .left) in
+    let good2 = passed (two .before .is-valid2 .ensures) (two .if2 .left) in
     rw (good, good2, ← c .before .empty-set3 .ensures)
     (c .finished .ensures _ (products-of _ _ _ _ _ _ (made .before .complex-terms .ensures) (made .complex-terms2 .ensures) (c .before .before .multiplied .ensures)))
 

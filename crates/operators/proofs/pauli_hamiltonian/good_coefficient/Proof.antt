@@ -1,8 +1,7 @@
 -- `pauli_hamiltonian::good_coefficient`: each return by the tests that led there.
 -- Assumes nothing.
-use mathlib.Core.Path.{sym, _∙_}
 use borrow.Author.Needs.{needs}
-use borrow.Author.Tests.{not-true, not-false}
+use Rattle.terms.proofs.BranchLaws.{passed, failed}
 use Rattle.operators.proofs.pauli_hamiltonian.good_coefficient.Statement.{statement}
 use Rattle.operators.proofs.pauli_hamiltonian.good_coefficient.Tie as tie
 
@@ -11,12 +10,12 @@ part-in-range-requires c κs = search needs
 
 returns : tie.Need-returns
 returns c =
-    let far = sym (c .before .part-in-range .ensures) ∙ not-true _ (c .if1 .taken) in
+    let far = failed (c .before .part-in-range .ensures) (c .if1 .taken) in
     rw far
 
 returns-2 : tie.Need-returns-2
 returns-2 c =
-    let near = sym (c .before .part-in-range .ensures) ∙ not-false _ (c .if1 .left) in
+    let near = passed (c .before .part-in-range .ensures) (c .if1 .left) in
     rw near
 
 pub good-coefficient-spec : {M : Type 1} → statement M

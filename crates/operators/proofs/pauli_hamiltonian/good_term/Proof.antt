@@ -1,9 +1,9 @@
 -- `pauli_hamiltonian::good_term`: the tests of the product and of the coefficient, then the search for the key past its place.
 -- Assumes nothing.
-use mathlib.Core.Path.{_≡_, sym, _∙_}
+use mathlib.Core.Path.{_≡_}
 use lib.ListN.{length, length-map}
 use borrow.Author.Needs.{needs}
-use borrow.Author.Tests.{not-true, not-false}
+use Rattle.terms.proofs.BranchLaws.{passed, failed}
 use Rattle.terms.proofs.ValidSetLaws.{bad-key, bad-coefficient, by-key}
 use Rattle.operators.proofs.RealValidLaws.{validHamiltonians}
 use Rattle.operators.proofs.pauli_hamiltonian.good_term.Statement.{statement}
@@ -24,7 +24,7 @@ is-valid-requires c κs = search needs
 returns : tie.Need-returns
 returns c =
     let b = c .before .before .before .before in
-    bad-key validHamiltonians (b .args .t1) (b .args .i) _ (whole b) (b .pre .0) (b .pre .1) (sym (c .before .is-valid .ensures) ∙ not-true _ (c .if1 .taken))
+    bad-key validHamiltonians (b .args .t1) (b .args .i) _ (whole b) (b .pre .0) (b .pre .1) (failed (c .before .is-valid .ensures) (c .if1 .taken))
 
 good-coefficient-requires : tie.Need-good-coefficient-requires
 good-coefficient-requires c κs = search needs
@@ -32,7 +32,7 @@ good-coefficient-requires c κs = search needs
 returns-2 : tie.Need-returns-2
 returns-2 c =
     let b = c .before .before .before .before .before .before in
-    bad-coefficient validHamiltonians (b .args .t1) (b .args .i) _ (whole b) (b .pre .0) (b .pre .1) (sym (c .before .good-coefficient .ensures) ∙ not-true _ (c .if2 .taken))
+    bad-coefficient validHamiltonians (b .args .t1) (b .args .i) _ (whole b) (b .pre .0) (b .pre .1) (failed (c .before .good-coefficient .ensures) (c .if2 .taken))
 
 add-find-from : tie.Need-add-find-from
 add-find-from c = search needs
@@ -43,8 +43,8 @@ find-from-requires c κs = search needs
 returns-3 : tie.Need-returns-3
 returns-3 c =
     let b = c .before .before .before .before .before .before .before in
-    let v = sym (c .before .before .before .before .is-valid .ensures) ∙ not-false _ (c .before .before .before .if1 .left) in
-    let g = sym (c .before .before .good-coefficient .ensures) ∙ not-false _ (c .before .if2 .left) in
+    let v = passed (c .before .before .before .before .is-valid .ensures) (c .before .before .before .if1 .left) in
+    let g = passed (c .before .before .good-coefficient .ensures) (c .before .if2 .left) in
     by-key validHamiltonians (b .args .t1) (b .args .i) _ (whole b) (b .pre .0) (b .pre .1) v g (c .find-from .result) (c .find-from .ensures)
 
 pub good-term-spec : {M : Type 1} → statement M

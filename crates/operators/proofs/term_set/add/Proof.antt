@@ -1,6 +1,6 @@
 -- The refusals in their order; a valid set holds its own terms (`valid-own`), so `put` takes it, and what it holds is what is written.
 use borrow.Author.Needs.{needs}
-use borrow.Author.Tests.{not-true, not-false}
+use borrow.Author.Tests.{not-false}
 use mathlib.Core.Bool.{true}
 use mathlib.Core.Path.{_≡_, sym, ap, _∙_}
 use Rattle.refusal.specs.Refusals.{done}
@@ -8,6 +8,7 @@ use Rattle.complex.specs.Complex.{inRange, sumOf}
 use Rattle.complex.specs.declared.Complex.{Complex}
 use Rattle.products.specs.Record.{valid}
 use Rattle.terms.specs.Setting.{added}
+use Rattle.terms.proofs.BranchLaws.{passed, failed}
 use Rattle.operators.specs.Complexes.{complexTerms, heldBy, validSet}
 use Rattle.operators.specs.Answers.{addTerm}
 use Rattle.operators.proofs.SetLaws.{termSets}
@@ -18,13 +19,13 @@ use Rattle.operators.proofs.term_set.add.Tie as tie
 
 -- what the tests passed say
 set-valid : (c : tie.Else1) → validSet (c .before .before .args .zeros) (c .before .before .args .s) ≡ true
-set-valid c = sym (c .before .is-valid .ensures) ∙ not-false _ (c .if1 .left)
+set-valid c = passed (c .before .is-valid .ensures) (c .if1 .left)
 
 key-valid : (c : tie.Else2) → valid (c .before .before .before .before .args .key) ≡ true
-key-valid c = sym (c .before .is-valid2 .ensures) ∙ not-false _ (c .if2 .left)
+key-valid c = passed (c .before .is-valid2 .ensures) (c .if2 .left)
 
 value-in-range : (c : tie.Else3) → inRange (c .before .before .before .before .before .before .args .value) ≡ true
-value-in-range c = sym (c .before .in-range .ensures) ∙ not-false _ (c .if3 .left)
+value-in-range c = passed (c .before .in-range .ensures) (c .if3 .left)
 
 -- the sum is the coefficient that the key gets
 is-sum : (c : tie.After-sum) → let a = c .before .before .before .before .before .before .before .before .args in added complexTerms (a .key) (a .value) (heldBy (a .s)) ≡ c .sum .result
@@ -38,18 +39,14 @@ is-valid-requires c κs = search needs
 
 returns : tie.Need-returns
 unfolding addTerm
-returns c =
-    let bad = sym (c .before .is-valid .ensures) ∙ not-true _ (c .if1 .taken) in
-    rw bad
+returns c = rw (failed (c .before .is-valid .ensures) (c .if1 .taken))
 
 is-valid-requires-2 : tie.Need-is-valid-requires-2
 is-valid-requires-2 c κs = search needs
 
 returns-2 : tie.Need-returns-2
 unfolding addTerm
-returns-2 c =
-    let bad = sym (c .before .is-valid2 .ensures) ∙ not-true _ (c .if2 .taken) in
-    rw (set-valid (c .before .before), bad)
+returns-2 c = rw (set-valid (c .before .before), failed (c .before .is-valid2 .ensures) (c .if2 .taken))
 
 in-range-requires : tie.Need-in-range-requires
 in-range-requires c κs = search needs
@@ -58,7 +55,7 @@ returns-3 : tie.Need-returns-3
 unfolding addTerm
 returns-3 c =
     let k = c .before .before in
-    let bad = sym (c .before .in-range .ensures) ∙ not-true _ (c .if3 .taken) in
+    let bad = failed (c .before .in-range .ensures) (c .if3 .taken) in
     rw (set-valid (k .before .before), key-valid k, bad)
 
 coefficient-at-requires : tie.Need-coefficient-at-requires
@@ -76,7 +73,7 @@ returns-4 c =
     let m = c .before .before .before in
     let v = m .before .before in
     let k = v .before .before in
-    let full = sym (c .before .before .put .ensures .0) ∙ not-true _ (c .if4 .taken) in
+    let full = failed (c .before .before .put .ensures .0) (c .if4 .taken) in
     rw (set-valid (k .before .before), key-valid k, value-in-range v, is-sum m, full)
 
 in-range-requires-2 : tie.Need-in-range-requires-2
@@ -89,8 +86,8 @@ returns-5 c =
     let m = r .before .before .before in
     let v = m .before .before in
     let k = v .before .before in
-    let room = sym (r .before .before .put .ensures .0) ∙ not-false _ (r .if4 .left) in
-    let bad = sym (c .before .in-range2 .ensures) ∙ not-true _ (c .if5 .taken) in
+    let room = passed (r .before .before .put .ensures .0) (r .if4 .left) in
+    let bad = failed (c .before .in-range2 .ensures) (c .if5 .taken) in
     rw (set-valid (k .before .before), key-valid k, value-in-range v, is-sum m, room, bad)
 
 returns-6 : tie.Need-returns-6
@@ -102,8 +99,8 @@ returns-6 c =
     let m = p .before in
     let v = m .before .before in
     let k = v .before .before in
-    let room = sym (p .put .ensures .0) ∙ not-false _ (r .if4 .left) in
-    let ok = sym (e .before .in-range2 .ensures) ∙ not-false _ (e .if5 .left) in
+    let room = passed (p .put .ensures .0) (r .if4 .left) in
+    let ok = passed (e .before .in-range2 .ensures) (e .if5 .left) in
     let a = k .before .before .before .before .args in
     let after = puts-written complexTerms termSets (a .key) (m .sum .result) (a .s .count) (a .s .terms) (p .put .ensures) (not-false _ (r .if4 .left)) in
     rw (set-valid (k .before .before), key-valid k, value-in-range v, is-sum m, room, ok) (λ j. (done, after j))

@@ -1,8 +1,7 @@
 -- `term_set::good_coefficient`: each return by the tests that led there.
 -- Assumes nothing.
-use mathlib.Core.Path.{sym, _∙_}
 use borrow.Author.Needs.{needs}
-use borrow.Author.Tests.{not-true, not-false}
+use Rattle.terms.proofs.BranchLaws.{passed, failed}
 use Rattle.operators.proofs.term_set.good_coefficient.Statement.{statement}
 use Rattle.operators.proofs.term_set.good_coefficient.Tie as tie
 
@@ -11,12 +10,12 @@ in-range-requires c κs = search needs
 
 returns : tie.Need-returns
 returns c =
-    let far = sym (c .before .in-range .ensures) ∙ not-true _ (c .if1 .taken) in
+    let far = failed (c .before .in-range .ensures) (c .if1 .taken) in
     rw far
 
 returns-2 : tie.Need-returns-2
 returns-2 c =
-    let near = sym (c .before .before .in-range .ensures) ∙ not-false _ (c .before .if1 .left) in
+    let near = passed (c .before .before .in-range .ensures) (c .before .if1 .left) in
     rw (near, c .if2 .taken)
 
 is-zero-requires : tie.Need-is-zero-requires
@@ -24,7 +23,7 @@ is-zero-requires c κs = search needs
 
 returns-3 : tie.Need-returns-3
 returns-3 c =
-    let near = sym (c .before .before .before .in-range .ensures) ∙ not-false _ (c .before .before .if1 .left) in
+    let near = passed (c .before .before .before .in-range .ensures) (c .before .before .if1 .left) in
     rw (near, c .before .if2 .left, c .is-zero .ensures)
 
 pub good-coefficient-spec : {M : Type 1} → statement M

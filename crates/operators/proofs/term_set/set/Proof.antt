@@ -1,11 +1,12 @@
 -- The refusals in their order; a valid set holds its own terms (`valid-own`), so `put` takes it, and what it holds is what is written.
 use borrow.Author.Needs.{needs}
-use borrow.Author.Tests.{not-true, not-false}
+use borrow.Author.Tests.{not-false}
 use mathlib.Core.Bool.{true}
-use mathlib.Core.Path.{_≡_, sym, _∙_}
+use mathlib.Core.Path.{_≡_}
 use Rattle.complex.specs.Complex.{inRange}
 use Rattle.products.specs.Record.{valid}
 use Rattle.terms.specs.Setting.{hasRoom}
+use Rattle.terms.proofs.BranchLaws.{passed, failed}
 use Rattle.operators.specs.Complexes.{complexTerms, heldBy, validSet}
 use Rattle.operators.specs.Answers.{setTerm}
 use Rattle.operators.proofs.SetLaws.{termSets}
@@ -16,34 +17,30 @@ use Rattle.operators.proofs.term_set.set.Tie as tie
 
 -- what the tests passed say
 set-valid : (c : tie.Else1) → validSet (c .before .before .args .zeros) (c .before .before .args .s) ≡ true
-set-valid c = sym (c .before .is-valid .ensures) ∙ not-false _ (c .if1 .left)
+set-valid c = passed (c .before .is-valid .ensures) (c .if1 .left)
 
 key-valid : (c : tie.Else2) → valid (c .before .before .before .before .args .key) ≡ true
-key-valid c = sym (c .before .is-valid2 .ensures) ∙ not-false _ (c .if2 .left)
+key-valid c = passed (c .before .is-valid2 .ensures) (c .if2 .left)
 
 value-in-range : (c : tie.Else3) → inRange (c .before .before .before .before .before .before .args .value) ≡ true
-value-in-range c = sym (c .before .in-range .ensures) ∙ not-false _ (c .if3 .left)
+value-in-range c = passed (c .before .in-range .ensures) (c .if3 .left)
 
 room : (c : tie.Else4) → let a = c .before .before .before .before .before .before .before .before .before .args in hasRoom complexTerms (a .key) (a .value) (heldBy (a .s)) ≡ true
-room c = sym (c .before .before .put .ensures .0) ∙ not-false _ (c .if4 .left)
+room c = passed (c .before .before .put .ensures .0) (c .if4 .left)
 
 is-valid-requires : tie.Need-is-valid-requires
 is-valid-requires c κs = search needs
 
 returns : tie.Need-returns
 unfolding setTerm
-returns c =
-    let bad = sym (c .before .is-valid .ensures) ∙ not-true _ (c .if1 .taken) in
-    rw bad
+returns c = rw (failed (c .before .is-valid .ensures) (c .if1 .taken))
 
 is-valid-requires-2 : tie.Need-is-valid-requires-2
 is-valid-requires-2 c κs = search needs
 
 returns-2 : tie.Need-returns-2
 unfolding setTerm
-returns-2 c =
-    let bad = sym (c .before .is-valid2 .ensures) ∙ not-true _ (c .if2 .taken) in
-    rw (set-valid (c .before .before), bad)
+returns-2 c = rw (set-valid (c .before .before), failed (c .before .is-valid2 .ensures) (c .if2 .taken))
 
 in-range-requires : tie.Need-in-range-requires
 in-range-requires c κs = search needs
@@ -52,7 +49,7 @@ returns-3 : tie.Need-returns-3
 unfolding setTerm
 returns-3 c =
     let k = c .before .before in
-    let bad = sym (c .before .in-range .ensures) ∙ not-true _ (c .if3 .taken) in
+    let bad = failed (c .before .in-range .ensures) (c .if3 .taken) in
     rw (set-valid (k .before .before), key-valid k, bad)
 
 put-requires : tie.Need-put-requires
@@ -63,7 +60,7 @@ unfolding setTerm
 returns-4 c =
     let v = c .before .before .before in
     let k = v .before .before in
-    let full = sym (c .before .before .put .ensures .0) ∙ not-true _ (c .if4 .taken) in
+    let full = failed (c .before .before .put .ensures .0) (c .if4 .taken) in
     rw (set-valid (k .before .before), key-valid k, value-in-range v, full)
 
 was-requires : tie.Need-was-requires

@@ -1,11 +1,11 @@
 -- The refusals in their order; a valid set has a count that the search may take (`valid-count`).
 use borrow.Author.Needs.{needs}
-use borrow.Author.Tests.{not-true, not-false}
 use mathlib.Core.Bool.{true}
 use lib.Ieee.{Float}
-use mathlib.Core.Path.{_≡_, sym, ap, _∙_}
+use mathlib.Core.Path.{_≡_, ap}
 use Rattle.refusal.specs.Refusals.{gives}
 use Rattle.products.specs.Record.{valid}
+use Rattle.terms.proofs.BranchLaws.{passed, failed}
 use Rattle.operators.specs.Reals.{complexOf, validSet}
 use Rattle.operators.specs.RealAnswers.{getReal}
 use Rattle.operators.proofs.RealValidLaws.{valid-count}
@@ -14,28 +14,24 @@ use Rattle.operators.proofs.pauli_hamiltonian.PauliHamiltonian.get.Tie 
 
 -- what the tests passed say
 set-valid : (c : tie.Else1) → validSet (c .before .before .before .args .self) ≡ true
-set-valid c = sym (c .before .is-valid .ensures) ∙ not-false _ (c .if1 .left)
+set-valid c = passed (c .before .is-valid .ensures) (c .if1 .left)
 
 key-valid : (c : tie.Else2) → valid (c .before .before .before .before .before .args .key .items) ≡ true
-key-valid c = sym (c .before .is-valid2 .ensures) ∙ not-false _ (c .if2 .left)
+key-valid c = passed (c .before .is-valid2 .ensures) (c .if2 .left)
 
 is-valid-requires : tie.Need-is-valid-requires
 is-valid-requires c κs = search needs
 
 returns : tie.Need-returns
 unfolding getReal
-returns c =
-    let bad = sym (c .before .is-valid .ensures) ∙ not-true _ (c .if1 .taken) in
-    rw bad
+returns c = rw (failed (c .before .is-valid .ensures) (c .if1 .taken))
 
 is-valid-requires-2 : tie.Need-is-valid-requires-2
 is-valid-requires-2 c κs = search needs
 
 returns-2 : tie.Need-returns-2
 unfolding getReal
-returns-2 c =
-    let bad = sym (c .before .is-valid2 .ensures) ∙ not-true _ (c .if2 .taken) in
-    rw (set-valid (c .before .before), bad)
+returns-2 c = rw (set-valid (c .before .before), failed (c .before .is-valid2 .ensures) (c .if2 .taken))
 
 coefficient-at-requires : tie.Need-coefficient-at-requires
 coefficient-at-requires c κs = valid-count _ (set-valid (c .before .before))

@@ -1,7 +1,6 @@
 -- The refusal of a record that is not valid; else the Hamiltonian itself.
 use borrow.Author.Needs.{needs}
-use borrow.Author.Tests.{not-true, not-false}
-use mathlib.Core.Path.{sym, _∙_}
+use Rattle.terms.proofs.BranchLaws.{passed, failed}
 use Rattle.operators.specs.RealAnswers.{conjugateReal}
 use Rattle.operators.proofs.pauli_hamiltonian.PauliHamiltonian.hermitian_conjugate.Statement.{statement}
 use Rattle.operators.proofs.pauli_hamiltonian.PauliHamiltonian.hermitian_conjugate.Tie as tie
@@ -11,14 +10,12 @@ is-valid-requires c κs = search needs
 
 returns : tie.Need-returns
 unfolding conjugateReal
-returns c =
-    let bad = sym (c .before .is-valid .ensures) ∙ not-true _ (c .if1 .taken) in
-    rw bad
+returns c = rw (failed (c .before .is-valid .ensures) (c .if1 .taken))
 
 returns-2 : tie.Need-returns-2
 unfolding conjugateReal
 returns-2 c =
-    let ok = sym (c .before .is-valid .ensures) ∙ not-false _ (c .if1 .left) in
+    let ok = passed (c .before .is-valid .ensures) (c .if1 .left) in
     rw ok
 
 pub hermitian-conjugate-spec : {M : Type 1} → statement M
