@@ -1,4 +1,4 @@
--- Contributions of whole numbers: their sizes place by place, the bound that a sum of k of them keeps, and a call that delivers an exact row.
+-- Contributions of whole numbers: their row, their sizes place by place, the bound that a sum of k of them keeps, and a call that delivers an exact row.
 -- Assumes nothing.
 use Prim.Native.Nat.{ℕ, zero, suc, _+_, _*_, _^_, _≤_, _<_}
 use native.Mathlib.Nat.{not-suc-le-zero, le-of-suc-le-suc, eq-or-lt-of-le}
@@ -15,17 +15,33 @@ use Rattle.refusal.specs.Refusals.{Said, gives, refuses}
 use Rattle.letters.specs.Gauss.{G, _⊕_}
 use Rattle.letters.specs.Tests.{every}
 use Rattle.letters.proofs.TestLaws.{and-true, and-left, and-right, bool-ext, every-at, every-intro, every-more, every-false}
+use Rattle.rows.specs.Placing.{rowOf}
+use Rattle.rows.specs.Sums.{Ascending, sumAt, valueAt}
 use Rattle.rows.specs.Sorting.{All, sorted, upTo}
 use Rattle.rows.specs.Buffers.{mostEntries, valueIn, entriesIn}
 use Rattle.rows.specs.Calls.{countOf, after}
-use Rattle.rows.specs.ExactRows.{whole, wholeParts, exactEntries, exactRowOf, within, largestContribution, allSmall, exactAnswer, ExactDelivered, ExactCall}
+use Rattle.rows.specs.Numbers.{halves}
+use Rattle.rows.specs.Contributions.{commutatorTerms, noiseTerms}
+use Rattle.rows.specs.ExactRows.{whole, wholeParts, exactEntries, isWholeZero, exactRowOf, within, largestCoefficient, largestContribution, allSmall, exactAnswer, ExactDelivered, ExactCall}
+use Rattle.rows.proofs.PlacingLaws.{nonzero-ascending, row-ascending, value-row, value-nonzero}
 use Rattle.rows.proofs.ArrayLaws.{Faithful, length-entriesIn}
 use Rattle.rows.proofs.SortLaws.{all-sorted}
 use Rattle.rows.proofs.CallLaws.{call-delivered, call-refused}
-use Rattle.rows.proofs.HalfLaws.{within-re, within-im, abs-sum}
+use Rattle.rows.proofs.HalfLaws.{within-re, within-im, abs-sum, taken-is, scaled-within, minus-within}
 
 pub wholes-faithful : Faithful wholeParts
 wholes-faithful = record { real = λ x y. refl; imaginary = λ x y. refl; whole = λ z. refl }
+
+-- ---- the row
+
+pub exact-ascending : (l : List (ℕ × G)) → Ascending 0 (exactRowOf l)
+unfolding exactRowOf
+exact-ascending l = nonzero-ascending 0 isWholeZero (rowOf _⊕_ l) (row-ascending _⊕_ l)
+
+-- at each column the sum of its contributions
+pub exact-value : (c : ℕ) (l : List (ℕ × G)) → valueAt c (exactRowOf l) ≡ sumAt c l
+unfolding exactRowOf
+exact-value c l = value-nonzero 0 c (rowOf _⊕_ l) (row-ascending _⊕_ l) ∙ value-row c l
 
 -- ---- lists whose every element has P
 
@@ -63,6 +79,22 @@ small-parts [] e p = (refl, and-left (within largestContribution (e .1)) true p)
 small-parts (x ∷ a) e p =
     let rest = small-parts a e (and-right (within largestContribution (x .1)) (allSmall (a ++ e ∷ [])) p) in
     (and-true (and-left (within largestContribution (x .1)) (allSmall (a ++ e ∷ [])) p) (rest .0), rest .1)
+
+-- what a coefficient that is taken contributes to a row
+module _ (n k l : ℕ) (c : G) (e : within largestCoefficient c ≡ true) where
+  scaled-small : (p : ℕ) → within largestContribution (halves .scaled p c) ≡ true
+  scaled-small p = ap (λ (z : G). within largestContribution (halves .scaled p z)) (sym (taken-is c e)) ∙ scaled-within p c
+
+  minus-small : (p : ℕ) → within largestContribution (halves .minusHalf p c) ≡ true
+  minus-small p = ap (λ (z : G). within largestContribution (halves .minusHalf p z)) (sym (taken-is c e)) ∙ minus-within p c
+
+  pub commutator-small : (f : ℕ → ℕ) → allSmall (commutatorTerms halves n k l f c) ≡ true
+  unfolding commutatorTerms
+  commutator-small f = small-cons _ _ (scaled-small _) (small-cons _ _ (scaled-small _) small-none)
+
+  pub noise-small : (f g : ℕ → ℕ) → allSmall (noiseTerms halves n k l f g c) ≡ true
+  unfolding noiseTerms
+  noise-small f g = small-cons _ _ (scaled-small _) (small-cons _ _ (minus-small _) (small-cons _ _ (minus-small _) small-none))
 
 -- place by place
 module _ (cs : List ℕ) (xs ys : List ℤ) where

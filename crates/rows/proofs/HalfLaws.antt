@@ -192,13 +192,17 @@ module _ (k : ℕ) (c : G) {z : G} (e : z ≡ i^ k ⊗ c) where
   pub minus-is : ⊝ z ≡ halves .minusHalf k c
   minus-is = ap ⊝ e ∙ sym (⊗-assoc −𝟙 (i^ k) c ∙ ap (λ (u : G). u ⊗ (i^ k ⊗ c)) (sym ⊝-𝟙) ∙ ⊝-⊗ 𝟙 (i^ k ⊗ c) ∙ ap ⊝ (𝟙-⊗ (i^ k ⊗ c)))
 
+-- i^k c has the size of c
+small : (k : ℕ) (c : G) → within largestCoefficient (i^ k ⊗ taken c) ≡ true
+small k c = unit-within largestCoefficient k (taken c) (taken-within c)
+
 -- in parts: x and y are the parts of z, u and v those of the answer
 module _ (k : ℕ) (c : G) {x y : ℤ} (e : whole x y ≡ i^ k ⊗ taken c) where
   pub unit-re : natAbs x ≤ largestCoefficient
-  unit-re = within-re largestCoefficient (whole x y) (ap (within largestCoefficient) e ∙ unit-within largestCoefficient k (taken c) (taken-within c))
+  unit-re = within-re largestCoefficient (whole x y) (ap (within largestCoefficient) e ∙ small k c)
 
   pub unit-im : natAbs y ≤ largestCoefficient
-  unit-im = within-im largestCoefficient (whole x y) (ap (within largestCoefficient) e ∙ unit-within largestCoefficient k (taken c) (taken-within c))
+  unit-im = within-im largestCoefficient (whole x y) (ap (within largestCoefficient) e ∙ small k c)
 
   pub scaled-done : {u v : ℤ} → u ≡ x +ℤ x → v ≡ y +ℤ y → whole u v ≡ halves .scaled k (taken c)
   unfolding _⊕_
@@ -211,17 +215,14 @@ module _ (k : ℕ) (c : G) {x y : ℤ} (e : whole x y ≡ i^ k ⊗ taken c) wher
 -- ---- every contribution is small
 
 module _ (k : ℕ) (c : G) where
-  small : within largestCoefficient (i^ k ⊗ taken c) ≡ true
-  small = unit-within largestCoefficient k (taken c) (taken-within c)
-
   pub scaled-within : within largestContribution (halves .scaled k (taken c)) ≡ true
   unfolding _⊕_
   scaled-within =
       let w = i^ k ⊗ taken c in
       ap (within largestContribution) (sym (scaled-is k (taken c) refl))
       ∙ within-both largestContribution (w ⊕ w)
-      (omega (arith, abs-sum (w .re) (w .re), within-re largestCoefficient w small))
-      (omega (arith, abs-sum (w .im) (w .im), within-im largestCoefficient w small))
+      (omega (arith, abs-sum (w .re) (w .re), within-re largestCoefficient w (small k c)))
+      (omega (arith, abs-sum (w .im) (w .im), within-im largestCoefficient w (small k c)))
 
   pub minus-within : within largestContribution (halves .minusHalf k (taken c)) ≡ true
   unfolding ⊝
@@ -229,5 +230,5 @@ module _ (k : ℕ) (c : G) where
       let w = i^ k ⊗ taken c in
       ap (within largestContribution) (sym (minus-is k (taken c) refl))
       ∙ within-both largestContribution (⊝ w)
-      (omega (arith, abs-neg (w .re), within-re largestCoefficient w small))
-      (omega (arith, abs-neg (w .im), within-im largestCoefficient w small))
+      (omega (arith, abs-neg (w .re), within-re largestCoefficient w (small k c)))
+      (omega (arith, abs-neg (w .im), within-im largestCoefficient w (small k c)))
