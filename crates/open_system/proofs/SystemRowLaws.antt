@@ -1,21 +1,24 @@
--- The rows of open systems: what is delivered of both parts, and number 0 of each part.
+-- The rows of open systems, in f64 and exact: what is delivered of both parts, and number 0 of each part.
 -- Assumes nothing.
 use Prim.Native.Nat.{ℕ, _+_, _≤_}
 use native.Mathlib.Omega.{arith}
 use mathlib.Core.Path.{_≡_, subst}
-use mathlib.Core.Bool.{true, false}
+use mathlib.Core.Bool.{true, false, not, cond}
 use mathlib.Core.List.{List, []}
+use lib.IntN.{ℤ}
 use lib.Ieee.{Float}
 use Rattle.refusal.specs.Refusals.{Said, refuses}
 use Rattle.complex.specs.declared.Complex.{Complex}
-use Rattle.rows.specs.Buffers.{Delivered, Answered, floatRow, openRow}
-use Rattle.rows.specs.Calls.{RowCall}
+use Rattle.rows.specs.Buffers.{TwoParts, Delivered, Answered, floatRow, openRow}
+use Rattle.rows.specs.Calls.{RowCallIn, RowCall}
+use Rattle.rows.specs.ExactRows.{ExactCall}
 use Rattle.rows.proofs.CallLaws.{call-refused}
 use Rattle.operators.specs.Reals as reals
 use Rattle.operators.specs.declared.term_set.Term.{Term}
 use Rattle.noise.specs.Pairs as pairs
 use Rattle.open_system.specs.OperatorRows.{hamiltonianTerms}
 use Rattle.open_system.specs.OpenRows.{validSystem, systemRowOf, systemRow}
+use Rattle.open_system.specs.ExactRows.{exactRowOfTerms, exactRow}
 use Rattle.open_system.specs.declared.PauliOpenSystem.{PauliOpenSystem}
 
 -- what is delivered of entries that are the contributions of both parts
@@ -26,18 +29,50 @@ delivered-both {k} {m} {c} {c₀} {n} {n₀} {r} {x} {x′} {y} {y′} {z} {z′
     subst (λ (l : List (ℕ × Complex)). Delivered (openRow (floatRow false c) (floatRow true l)) r x x′ y y′ z z′) f
     (subst (λ (l : List (ℕ × Complex)). Delivered (openRow (floatRow false l) (floatRow true n₀)) r x x′ y y′ z z′) e (d .within all))
 
--- number 0 comes first, for the Hamiltonian and for the noise
-module _ (s : PauliOpenSystem) (n r : ℕ) {a : List ℕ} {b c : List Float} where
-  pub system-malformed : reals.validSet (s .system) ≡ false → RowCall (systemRow s n r) (refuses 0 []) a a b b c c
-  unfolding systemRow validSystem
-  system-malformed e = rw e (call-refused 0 [] a b c)
+-- number 0 comes first, for the Hamiltonian and for the noise, in a call that answers x after it
+abbrev judged : {N : Type 0} → PauliOpenSystem → Said (List (ℕ × N)) → Said (List (ℕ × N))
+judged s x = cond (not (validSystem s)) (refuses 0 []) x
 
-  pub noise-malformed : reals.validSet (s .system) ≡ true → pairs.validSet (s .noise) ≡ false → RowCall (systemRow s n r) (refuses 0 []) a a b b c c
-  unfolding systemRow validSystem
-  noise-malformed e f = rw (e, f) (call-refused 0 [] a b c)
+module _ {N X : Type 0} {P : TwoParts N X} (s : PauliOpenSystem) (x : Said (List (ℕ × N))) {a : List ℕ} {b c : List X} where
+  pub zero-hamiltonian : reals.validSet (s .system) ≡ false → RowCallIn P (judged s x) (refuses 0 []) a a b b c c
+  unfolding validSystem
+  zero-hamiltonian e = rw e (call-refused 0 [] a b c)
 
-  -- l are the Hamiltonian's terms
-  pub system-valid : reals.validSet (s .system) ≡ true → pairs.validSet (s .noise) ≡ true → (l : List Term) → l ≡ hamiltonianTerms (s .system)
-      → {x : Said ℕ} {a′ : List ℕ} {b′ c′ : List Float} → RowCall (systemRowOf n r l (pairs.heldBy (s .noise))) x a a′ b b′ c c′ → RowCall (systemRow s n r) x a a′ b b′ c c′
-  unfolding systemRow validSystem
-  system-valid e f l g {x} {a′} {b′} {c′} d = rw (e, f) (subst (λ (h : List Term). RowCall (systemRowOf n r h (pairs.heldBy (s .noise))) x a a′ b b′ c c′) g d)
+  pub zero-noise : reals.validSet (s .system) ≡ true → pairs.validSet (s .noise .set) ≡ false → RowCallIn P (judged s x) (refuses 0 []) a a b b c c
+  unfolding validSystem
+  zero-noise e f = rw (e, f) (call-refused 0 [] a b c)
+
+  pub zero-passed : reals.validSet (s .system) ≡ true → pairs.validSet (s .noise .set) ≡ true → {q : Said ℕ} {a′ : List ℕ} {b′ c′ : List X} → RowCallIn P x q a a′ b b′ c c′
+      → RowCallIn P (judged s x) q a a′ b b′ c c′
+  unfolding validSystem
+  zero-passed e f d = rw (e, f) d
+
+-- the rows in f64, and the exact rows; l are the Hamiltonian's terms
+module _ (s : PauliOpenSystem) (n r : ℕ) {a : List ℕ} where
+  module _ {b c : List Float} where
+    pub system-malformed : reals.validSet (s .system) ≡ false → RowCall (systemRow s n r) (refuses 0 []) a a b b c c
+    unfolding systemRow
+    system-malformed e = zero-hamiltonian s _ e
+
+    pub noise-malformed : reals.validSet (s .system) ≡ true → pairs.validSet (s .noise .set) ≡ false → RowCall (systemRow s n r) (refuses 0 []) a a b b c c
+    unfolding systemRow
+    noise-malformed e f = zero-noise s _ e f
+
+    pub system-valid : reals.validSet (s .system) ≡ true → pairs.validSet (s .noise .set) ≡ true → (l : List Term) → l ≡ hamiltonianTerms (s .system)
+        → {x : Said ℕ} {a′ : List ℕ} {b′ c′ : List Float} → RowCall (systemRowOf n r l (pairs.heldBy (s .noise .set))) x a a′ b b′ c c′ → RowCall (systemRow s n r) x a a′ b b′ c c′
+    unfolding systemRow
+    system-valid e f l g {x} {a′} {b′} {c′} d = zero-passed s _ e f (subst (λ (h : List Term). RowCall (systemRowOf n r h (pairs.heldBy (s .noise .set))) x a a′ b b′ c c′) g d)
+
+  module _ {b c : List ℤ} where
+    pub exact-system-malformed : reals.validSet (s .system) ≡ false → ExactCall (exactRow s n r) (refuses 0 []) a a b b c c
+    unfolding exactRow
+    exact-system-malformed e = zero-hamiltonian s _ e
+
+    pub exact-noise-malformed : reals.validSet (s .system) ≡ true → pairs.validSet (s .noise .set) ≡ false → ExactCall (exactRow s n r) (refuses 0 []) a a b b c c
+    unfolding exactRow
+    exact-noise-malformed e f = zero-noise s _ e f
+
+    pub exact-system-valid : reals.validSet (s .system) ≡ true → pairs.validSet (s .noise .set) ≡ true → (l : List Term) → l ≡ hamiltonianTerms (s .system)
+        → {x : Said ℕ} {a′ : List ℕ} {b′ c′ : List ℤ} → ExactCall (exactRowOfTerms n r l (pairs.heldBy (s .noise .set))) x a a′ b b′ c c′ → ExactCall (exactRow s n r) x a a′ b b′ c c′
+    unfolding exactRow
+    exact-system-valid e f l g {x} {a′} {b′} {c′} d = zero-passed s _ e f (subst (λ (h : List Term). ExactCall (exactRowOfTerms n r h (pairs.heldBy (s .noise .set))) x a a′ b b′ c c′) g d)

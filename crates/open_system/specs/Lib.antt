@@ -2,3 +2,5 @@ pub mod Accepted
 pub mod OperatorRows
 pub mod NoiseRows
 pub mod OpenRows
+pub mod ExactRows
+pub mod Grouping

@@ -20,7 +20,7 @@ use Rattle.open_system.specs.declared.PauliOpenSystem.{PauliOpenSystem}
 
 -- number 0 lets both sets pass
 unfoldable pub validSystem : PauliOpenSystem → Bool
-validSystem s = cond (reals.validSet (s .system)) (pairs.validSet (s .noise)) false
+validSystem s = cond (reals.validSet (s .system)) (pairs.validSet (s .noise .set)) false
 
 -- the products of terms, Hamiltonian before noise, left side first
 abbrev pub itemsOf : List Term → List NoiseTerm → List Items
@@ -31,4 +31,4 @@ unfoldable pub systemRowOf : ℕ → ℕ → List Term → List NoiseTerm → Sa
 systemRowOf n r h w = checkedRow n (2 ^ n * 2 ^ n) r (itemsOf h w) (openRow (floatRow false (commutatorContributions n r h)) (floatRow true (noiseContributions n r w)))
 
 unfoldable pub systemRow : PauliOpenSystem → ℕ → ℕ → Said (List (ℕ × Complex))
-systemRow s n r = cond (not (validSystem s)) (refuses 0 []) (systemRowOf n r (hamiltonianTerms (s .system)) (pairs.heldBy (s .noise)))
+systemRow s n r = cond (not (validSystem s)) (refuses 0 []) (systemRowOf n r (hamiltonianTerms (s .system)) (pairs.heldBy (s .noise .set)))

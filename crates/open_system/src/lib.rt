@@ -1,7 +1,6 @@
 // Open systems: a Hamiltonian with noise, and the rows of their superoperator; rows of operators, Hamiltonians and noise sets.
 ghost use mathlib.Core.Path.{_≡_};
 ghost use mathlib.Core.Bool.{true, false};
-ghost use mathlib.Core.List.{[]};
 ghost use Prim.Native.Nat.{_*_, _^_, _<_};
 ghost use Rattle.refusal.specs.Refusals.{carried};
 ghost use Rattle.products.specs.Record.{valid};
@@ -9,14 +8,16 @@ ghost use Rattle.terms.specs.Keyed.{each};
 ghost use Rattle.rows.specs.Buffers.{Delivered, saidDelivery, floatRow, openRow};
 ghost use Rattle.rows.specs.Calls.{RowCall, outside};
 ghost use Rattle.operators.specs.Complexes as complexes;
-ghost use Rattle.operators.specs.Reals as reals;
 ghost use Rattle.noise.specs.Pairs as pairs;
 ghost use Rattle.open_system.specs.Accepted.{Accepted};
 ghost use Rattle.open_system.specs.OperatorRows.{commutatorContributions};
 ghost use Rattle.open_system.specs.NoiseRows.{noiseContributions};
 ghost use Rattle.open_system.specs.OpenRows.{itemsOf, systemRowOf, systemRow};
+ghost use Rattle.open_system.specs.Grouping.{emptySystem, groupAnswer, toldSystem};
 
 mod contributions;
+mod exact;
+pub mod exact_row;
 pub mod noise_row;
 pub mod operator_row;
 mod outside;
@@ -24,6 +25,7 @@ mod outside;
 use contributions::write_commutator;
 use contributions::write_noise;
 use noise::noise_set::NoiseSet;
+use noise::pauli_noise_operator::PauliLindbladNoiseOperator;
 use operators::pauli_hamiltonian::PauliHamiltonian;
 use operators::pauli_hamiltonian::complex_terms;
 use operators::term_set::TermSet;
@@ -31,25 +33,55 @@ use outside::of_noise;
 use outside::of_operator;
 use products::row::MOST_SPINS;
 use refusal::Carried;
+use refusal::Outcome;
 use refusal::Refusal;
 use rows::Delivery;
 use rows::deliver_both;
 
 pub struct PauliOpenSystem {
     pub system: PauliHamiltonian,
-    pub noise: NoiseSet,
+    pub noise: PauliLindbladNoiseOperator,
+}
+
+// A system, or the refusal with the empty system beside it.
+pub struct OpenSystemAnswer {
+    pub outcome: Outcome,
+    pub system: PauliOpenSystem,
 }
 
 impl PauliOpenSystem {
     // The system without terms.
     pub fn new() -> PauliOpenSystem
-        ensures { λ r. ⌜ (r .system ≡ reals.filled []) × (r .noise ≡ pairs.filled []) ⌝ }
+        ensures { λ r. ⌜ r ≡ emptySystem ⌝ }
     {
         let h = PauliHamiltonian::new();
-        let n = noise::noise_set::empty_set();
+        let n = PauliLindbladNoiseOperator::new();
         PauliOpenSystem {
             system: h,
             noise: n,
+        }
+    }
+
+    // A Hamiltonian and a noise operator as one system, both judged by 0.
+    pub fn group(system: PauliHamiltonian, noise: PauliLindbladNoiseOperator) -> OpenSystemAnswer
+        ensures { λ r. ⌜ toldSystem r ≡ groupAnswer system noise ⌝ }
+    {
+        let set = noise.set;
+        if !system.is_valid() {
+            return OpenSystemAnswer {
+                outcome: Outcome::Refused(Refusal::Malformed),
+                system: PauliOpenSystem::new(),
+            };
+        }
+        if !noise::noise_set::is_valid(set) {
+            return OpenSystemAnswer {
+                outcome: Outcome::Refused(Refusal::Malformed),
+                system: PauliOpenSystem::new(),
+            };
+        }
+        OpenSystemAnswer {
+            outcome: Outcome::Done,
+            system: PauliOpenSystem { system, noise },
         }
     }
 }
@@ -65,7 +97,7 @@ pub(crate) fn size_of(spins: u32) -> u64
 }
 
 // The first product with a site at the spin count or above, by its highest site: the Hamiltonian before the noise.
-fn outside_site(h: TermSet, n: NoiseSet, spins: u32) -> Carried
+pub(crate) fn outside_site(h: TermSet, n: NoiseSet, spins: u32) -> Carried
     ensures { λ r. ⌜ carried r ≡ outside spins (itemsOf (complexes.heldBy h) (pairs.heldBy n)) ⌝ }
 {
     match of_operator(h, spins) {
@@ -147,7 +179,7 @@ pub fn row(
     ensures { λ r. ⌜ RowCall (systemRow s spins row) (saidDelivery r) (now («out_columns» .entry)) (now («out_columns» .exit)) (now («out_re» .entry)) (now («out_re» .exit)) (now («out_im» .entry)) (now («out_im» .exit)) ⌝ }
 {
     let h = s.system;
-    let n = s.noise;
+    let n = s.noise.set;
     if !h.is_valid() {
         return Delivery::Refused(Refusal::Malformed);
     }

@@ -1,6 +1,7 @@
 // The systems whose rows are run.
 use complex::Complex;
 use noise::noise_set::NoiseSet;
+use noise::pauli_noise_operator::PauliLindbladNoiseOperator;
 use open_system::PauliOpenSystem;
 use operators::pauli_hamiltonian::PauliHamiltonian;
 use products::items::Items;
@@ -73,7 +74,7 @@ pub(crate) fn full() -> PauliOpenSystem {
     let s = full_noise();
     PauliOpenSystem {
         system: h,
-        noise: s,
+        noise: PauliLindbladNoiseOperator { set: s },
     }
 }
 
@@ -88,7 +89,7 @@ pub(crate) fn worked() -> PauliOpenSystem {
     let s = b.set;
     PauliOpenSystem {
         system: h,
-        noise: s,
+        noise: PauliLindbladNoiseOperator { set: s },
     }
 }
 
@@ -100,7 +101,7 @@ pub(crate) fn at_site(site: u8) -> PauliOpenSystem {
     let s = noise::noise_set::empty_set();
     PauliOpenSystem {
         system: h,
-        noise: s,
+        noise: PauliLindbladNoiseOperator { set: s },
     }
 }
 
@@ -114,6 +115,6 @@ pub(crate) fn noise_at_site(site: u8) -> PauliOpenSystem {
     let s = a.set;
     PauliOpenSystem {
         system: h,
-        noise: s,
+        noise: PauliLindbladNoiseOperator { set: s },
     }
 }
