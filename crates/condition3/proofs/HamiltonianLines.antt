@@ -25,8 +25,9 @@ use Rattle.operators.specs.RealAnswers.{setReal, addReal}
 use Rattle.operators.specs.declared.pauli_hamiltonian.RealTerm.{RealTerm}
 use Rattle.operators.specs.declared.pauli_hamiltonian.PauliHamiltonian.{PauliHamiltonian}
 use Rattle.terms.proofs.FilledLaws.{held-filled}
-use Rattle.operators.proofs.RealSetLaws.{termSets as realSets}
-use Rattle.operators.proofs.RealValidLaws as real_valid
+use Rattle.operators.proofs.RealSetLaws.{realSets}
+use Rattle.terms.proofs.ValidSetLaws as valid_sets
+use Rattle.operators.proofs.RealValidLaws.{validHamiltonians}
 use Rattle.operators.proofs.RealValidAnswers as real_answers
 use Rattle.condition3.specs.ReferenceModel.{Line, realPart, writeLine, addLine, unlessFull, linesInRange, unlessRefused, lawfulTerm}
 use Rattle.condition3.proofs.LineLaws.{linesOf, Faithful, lines-write, lines-add, parts-added}
@@ -42,12 +43,12 @@ real-faithful = record { same = same-equal; key-of = λ k a. refl; coefficient-o
 
 module _ (s : PauliHamiltonian) (k : Items) (a : Float) (v : reals.validSet s ≡ true) where
   few : length (reals.heldBy s) ≤ mostTerms
-  few = let h = real_valid.valid-held s v in omega (arith, h .long, h .few)
+  few = valid_sets.valid-few validHamiltonians s v
 
   -- the terms are in range
   ranges : each (λ t ts. inRange (realPart (t .coefficient))) (reals.heldBy s) ≡ true
   ranges = each-follows (λ t ts. reals.goodCoefficient (t .coefficient)) (λ t ts. inRange (realPart (t .coefficient)))
-      (λ t ts e. in-range-real (t .coefficient) ∙ and-left (partInRange (t .coefficient)) (not (eq (t .coefficient) plusZero)) e) (reals.heldBy s) (real_valid.valid-coefficients s v)
+      (λ t ts e. in-range-real (t .coefficient) ∙ and-left (partInRange (t .coefficient)) (not (eq (t .coefficient) plusZero)) e) (reals.heldBy s) (valid_sets.valid-coefficients validHamiltonians s v)
 
   -- the terms are in range after one that is in range is written
   written-range : (b : Float) → partInRange b ≡ true → linesInRange (linesOf realTerms realPart (write realTerms k b (reals.heldBy s))) ≡ true

@@ -4,3 +4,9 @@ pub mod PageLaws
 pub mod HamiltonianLines
 pub mod NoiseLines
 pub mod ModelLaws
+pub mod HandedIn
+pub mod WholeLines
+pub mod RowValues
+pub mod SoundLines
+pub mod Condition3Theorem
+pub mod Delivered

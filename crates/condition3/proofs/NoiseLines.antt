@@ -8,8 +8,8 @@ use mathlib.Core.List.{List, [], _∷_, _++_, map}
 use mathlib.Core.Option.{Option, none, some}
 use lib.Dec.{eqb}
 use lib.ListN.{length}
-use Rattle.letters.proofs.TestLaws.{and-true, and-false}
-use Rattle.complex.specs.Complex.{inRange, productOf, conjugateOf}
+use Rattle.letters.proofs.TestLaws.{and-true, and-left, and-false}
+use Rattle.complex.specs.Complex.{isZero, inRange, productOf, conjugateOf}
 use Rattle.complex.specs.declared.Complex.{Complex}
 use Rattle.complex.proofs.FloatLaws.{clash}
 use Rattle.products.specs.Record.{valid}
@@ -17,18 +17,22 @@ use Rattle.products.specs.declared.items.Items.{Items}
 use Rattle.terms.specs.Keyed.{each, concatMap}
 use Rattle.terms.specs.Setting.{mostTerms, write, hasRoom, added, addAll}
 use Rattle.terms.specs.Chains.{pairTerms as fullTerms}
+use Rattle.terms.specs.Entries as entries
 use Rattle.terms.proofs.KeyedLaws.{map-append}
 use Rattle.terms.proofs.SettingLaws.{each-write}
+use Rattle.terms.proofs.EachLaws.{each-follows}
 use Rattle.operators.specs.Complexes.{complexTerms, complexProducts}
 use Rattle.operators.specs.Complexes as operators
 use Rattle.operators.specs.declared.term_set.Term.{Term}
 use Rattle.operators.specs.declared.term_set.TermSet.{TermSet}
-use Rattle.noise.specs.Pairs.{Key, sameKey, pairTerms, isEmpty, heldBy, filled, validSet}
+use Rattle.noise.specs.Pairs.{Key, sameKey, pairTerms, isEmpty, heldBy, filled, goodCoefficient, validSet}
 use Rattle.noise.specs.Answers.{validKey, emptySide, setPair, addPair, addFullOperators, allInRange, collected}
 use Rattle.noise.specs.declared.noise_set.NoiseTerm.{NoiseTerm}
 use Rattle.noise.specs.declared.noise_set.NoiseSet.{NoiseSet}
-use Rattle.noise.proofs.SetLaws.{held-filled}
-use Rattle.noise.proofs.ValidLaws.{same-key-equal, valid-held, valid-ranges}
+use Rattle.terms.proofs.FilledLaws.{held-filled}
+use Rattle.noise.proofs.SetLaws.{noiseSets}
+use Rattle.terms.proofs.ValidSetLaws as valid_sets
+use Rattle.noise.proofs.ValidLaws.{same-key-equal, validNoiseSets}
 use Rattle.noise.proofs.NoiseValidAnswers as answers
 use Rattle.condition3.specs.ReferenceModel.{Line, writeLine, addLine, addLines, unlessFull, linesInRange, unlessRefused, lawfulPair, lawfulOperators, fullLines}
 use Rattle.condition3.proofs.LineLaws.{lineOf, linesOf, Faithful, lines-write, lines-add, linesIf, lines-addAll}
@@ -47,14 +51,19 @@ pairs-faithful = record { same = same-key-equal; key-of = λ k a. refl; coeffici
 
 module _ (s : NoiseSet) (v : validSet s ≡ true) where
   few : length (heldBy s) ≤ mostTerms
-  few = let h = valid-held s v in omega (arith, h .long, h .few)
+  few = valid_sets.valid-few validNoiseSets s v
+
+  -- the terms are in range
+  ranges : each (λ t ts. inRange (t .coefficient)) (heldBy s) ≡ true
+  ranges = each-follows (λ t ts. goodCoefficient (t .coefficient)) (λ t ts. inRange (t .coefficient))
+      (λ t ts e. and-left (inRange (t .coefficient)) (not (isZero (t .coefficient))) e) (heldBy s) (valid_sets.valid-coefficients validNoiseSets s v)
 
   module _ (k : Key) (a : Complex) where
     -- the terms are in range after one that is in range is written
     written-range : (b : Complex) → inRange b ≡ true → linesInRange (linesOf pairTerms itself (write pairTerms k b (heldBy s))) ≡ true
     written-range b r =
         range-is pairTerms itself (write pairTerms k b (heldBy s))
-        ∙ each-write pairTerms (λ t. inRange (t .coefficient)) k b (heldBy s) (valid-ranges s v) r
+        ∙ each-write pairTerms (λ t. inRange (t .coefficient)) k b (heldBy s) ranges r
 
     -- its arguments are refused, or not
     bad-product : validKey k ≡ false → lawfulPair k a ≡ false
@@ -90,7 +99,7 @@ module _ (s : NoiseSet) (v : validSet s ≡ true) where
         unless P (emptySide k) _ _ _ _ (λ e. sym (arguments-refused (lawfulPair k a) (noiseLines s) (bad-side e) (unlessFull setPage))) (λ n.
         past P (inRange a) _ _ _ _ (λ e. sym (arguments-refused (lawfulPair k a) (noiseLines s) (bad-value e) (unlessFull setPage))) (λ r.
         past P (hasRoom pairTerms k a (heldBy s)) _ _ _ _ (λ e. kept-full pairTerms itself pairs-faithful (lawfulPair k a) k a (heldBy s) setPage page few e) (λ e.
-        ap (linesOf pairTerms itself) (held-filled (write pairTerms k a (heldBy s)))
+        ap (linesOf pairTerms itself) (held-filled noiseSets (write pairTerms k a (heldBy s)))
         ∙ written-in pairTerms itself pairs-faithful (lawfulPair k a) k a (heldBy s) setPage page few (good-arguments w n r) e (ap linesInRange (sym page) ∙ written-range a r))))))
       where
         P : NoiseSet → Type 0
@@ -111,7 +120,7 @@ module _ (s : NoiseSet) (v : validSet s ≡ true) where
         past P (inRange a) _ _ _ _ (λ e. sym (arguments-refused (lawfulPair k a) (noiseLines s) (bad-value e) (unlessFull addPage))) (λ r.
         past P (hasRoom pairTerms k b (heldBy s)) _ _ _ _ (λ e. kept-full pairTerms itself pairs-faithful (lawfulPair k a) k b (heldBy s) addPage page few e) (λ e.
         past P (inRange b) _ _ _ _ (λ o. kept-out pairTerms itself pairs-faithful (lawfulPair k a) k b (heldBy s) addPage page (out o)) (λ o.
-        ap (linesOf pairTerms itself) (held-filled (write pairTerms k b (heldBy s)))
+        ap (linesOf pairTerms itself) (held-filled noiseSets (write pairTerms k b (heldBy s)))
         ∙ written-in pairTerms itself pairs-faithful (lawfulPair k a) k b (heldBy s) addPage page few (good-arguments w n r) e (ap linesInRange (sym page) ∙ written-range b o)))))))
       where
         b : Complex
@@ -182,16 +191,16 @@ module _ (s : NoiseSet) (l r : TermSet) (z : Complex) (v : validSet s ≡ true) 
   good-operators a b c d = and-true (and-true a b) (and-true (ap not c) d)
 
   -- the chain's end
-  ended : lawful ≡ true → (o : Option (List NoiseTerm)) → noiseLines (collected s o .1) ≡ unlessRefused lawful (linesIf pairTerms itself pairs-faithful o) (noiseLines s)
-  unfolding collected unlessRefused
-  ended g none = refl
-  ended g (some m) =
+  chain-lines : lawful ≡ true → (o : Option (List NoiseTerm)) → noiseLines (collected s o .1) ≡ unlessRefused lawful (linesIf pairTerms itself pairs-faithful o) (noiseLines s)
+  unfolding entries.collected entries.ended unlessRefused
+  chain-lines g none = refl
+  chain-lines g (some m) =
       past (λ x. noiseLines x ≡ unlessRefused lawful (some (linesOf pairTerms itself m)) (noiseLines s)) (allInRange m) _ _ _ _
       (λ e. sym (range-refused lawful (noiseLines s) (linesOf pairTerms itself m) (range m ∙ e)))
-      (λ e. ap (linesOf pairTerms itself) (held-filled m) ∙ sym (call-accepted lawful (noiseLines s) (linesOf pairTerms itself m) g (range m ∙ e)))
+      (λ e. ap (linesOf pairTerms itself) (held-filled noiseSets m) ∙ sym (call-accepted lawful (noiseLines s) (linesOf pairTerms itself m) g (range m ∙ e)))
     where
       range : (m : List NoiseTerm) → linesInRange (linesOf pairTerms itself m) ≡ allInRange m
-      range m = unfold allInRange in range-is pairTerms itself m
+      range m = unfold entries.allInRange in range-is pairTerms itself m
 
   pub full-set-valid : validSet (addFullOperators s l r z .1) ≡ true
   full-set-valid = either (λ x. validSet x ≡ true) s (addFullOperators s l r z) (λ o. answers.full-valid s l r z) (answers.full-refused s l r z) v
@@ -204,7 +213,7 @@ module _ (s : NoiseSet) (l r : TermSet) (z : Complex) (v : validSet s ≡ true) 
       past P (operators.validSet false r) _ _ _ _ (λ e. sym (arguments-refused lawful (noiseLines s) (bad-right e) page)) (λ b.
       unless P empty _ _ _ _ (λ e. sym (arguments-refused lawful (noiseLines s) (no-terms e) page)) (λ c.
       past P (inRange z) _ _ _ _ (λ e. sym (arguments-refused lawful (noiseLines s) (bad-number e) page)) (λ d.
-      ended (good-operators a b c d) (addAll pairTerms terms (heldBy s)) ∙ ap (λ o. unlessRefused lawful o (noiseLines s)) page-is)))))
+      chain-lines (good-operators a b c d) (addAll pairTerms terms (heldBy s)) ∙ ap (λ o. unlessRefused lawful o (noiseLines s)) page-is)))))
     where
       P : NoiseSet → Type 0
       P x = noiseLines x ≡ unlessRefused lawful page (noiseLines s)

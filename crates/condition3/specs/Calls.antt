@@ -1,7 +1,7 @@
 -- Lists of calls, and the records that the entries give back, call after call, by the definitions that their contracts name.
 -- Document 01, `The book for condition 3`: "A list consists of calls of `set` and `add_operator_product`, each on the Hamiltonian or the noise
 -- set, and of `add_noise_from_full_operators`, refused ones included."
-use mathlib.Core.List.{List, []}
+use mathlib.Core.List.{List, [], _++_, map}
 use lib.Ieee.{Float}
 use Rattle.complex.specs.declared.Complex.{Complex}
 use Rattle.products.specs.declared.items.Items.{Items}
@@ -43,3 +43,8 @@ called (addNoiseFromFullOperators l r v) s = record { hamiltonian = s .hamiltoni
 -- the sets after a list of calls
 unfoldable pub setsAfter : List Call → Sets
 setsAfter calls = run called calls newSets
+
+-- "A system handed in that number 0 lets pass stands for the list that sets its terms in their order"
+unfoldable pub callsThatSet : PauliHamiltonian → NoiseSet → List Call
+callsThatSet h w =
+    map (λ t. setHamiltonian (t .items) (t .coefficient)) (reals.heldBy h) ++ map (λ t. setNoise (t .left, t .right) (t .coefficient)) (pairs.heldBy w)

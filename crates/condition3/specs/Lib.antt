@@ -1,2 +1,3 @@
 pub mod Calls
 pub mod ReferenceModel
+pub mod Condition3

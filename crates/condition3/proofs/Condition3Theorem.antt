@@ -1,0 +1,172 @@
+-- Condition 3, proved: the statements are those of specs/Condition3.
+-- Assumes nothing.
+use Prim.Native.Nat.{ℕ, _*_, _^_, _<_}
+use mathlib.Core.Path.{_≡_, refl, sym, ap, ap₂, subst, _∙_}
+use mathlib.Core.Bool.{Bool, true, false, not, _&&_, cond}
+use mathlib.Core.List.{List, [], _∷_, _++_, map}
+use mathlib.Core.Logic.{_↔_}
+use lib.Dec.{leb}
+use Rattle.letters.specs.Gauss.{G}
+use Rattle.complex.proofs.FloatLaws.{clash}
+use Rattle.products.specs.Record.{reach, sameItems}
+use Rattle.products.specs.declared.items.Items.{Items}
+use Rattle.terms.specs.Keyed.{each, concatMap}
+use Rattle.operators.specs.Reals.{realTerms}
+use Rattle.operators.specs.Reals as reals
+use Rattle.operators.specs.declared.pauli_hamiltonian.PauliHamiltonian.{PauliHamiltonian}
+use Rattle.noise.specs.Pairs.{Key, sameKey, pairTerms, isEmpty}
+use Rattle.noise.specs.Pairs as pairs
+use Rattle.noise.specs.declared.noise_set.NoiseSet.{NoiseSet}
+use Rattle.noise.specs.declared.pauli_noise_operator.PauliLindbladNoiseOperator.{PauliLindbladNoiseOperator}
+use Rattle.open_system.specs.declared.PauliOpenSystem.{PauliOpenSystem}
+use Rattle.open_system.specs.OpenRows.{validSystem}
+use Rattle.open_system.specs.OperatorRows.{hamiltonianTerms}
+use Rattle.superoperator.specs.Systems.{SoundTerms, Sound, SameTerms, onSpins, pairOnSpins, samePair}
+use Rattle.superoperator.proofs.Determined.{entries-determine}
+use Rattle.complex.specs.Wholes.{bothWhole}
+use Rattle.rows.specs.ExactRows.{exactRowOf}
+use Rattle.open_system.specs.ExactRows.{exactContributions, exactCommutatorPart, exactNoisePart, exactEntriesOf}
+use Rattle.open_system.specs.Grouping.{groupAnswer}
+use Rattle.condition3.specs.Calls.{Call, setsAfter, callsThatSet}
+use Rattle.condition3.specs.ReferenceModel.{Line, realPart, Model, modelAfter}
+use Rattle.condition3.specs.Condition3.{Premises, SamePage, SameModel, RowsAgree, systemAfter, Condition3, Source, made, handedIn, systemOf, callsOf, Condition3HandedIn}
+use Rattle.condition3.proofs.AnswerLaws.{past}
+use Rattle.condition3.proofs.ModelLaws.{Holds, holds-after}
+use Rattle.condition3.proofs.LineLaws.{linesOf}
+use Rattle.condition3.proofs.HamiltonianLines.{realLines}
+use Rattle.condition3.proofs.NoiseLines.{noiseLines, itself}
+use Rattle.condition3.proofs.HandedIn.{set-again}
+use Rattle.condition3.proofs.WholeLines.{wholeLines, pages-same}
+use Rattle.condition3.proofs.RowValues.{wholeContributions, rows-entries}
+use Rattle.condition3.proofs.SoundLines.{sound-hamiltonian, sound-noise, sound-fits, sound-pairs-fit}
+
+-- ---- pages with sound lines: rows, entries, terms, pages
+
+module _ (n : ℕ) (h h′ : List (Line Items)) (w w′ : List (Line Key))
+    (sh : SoundTerms sameItems (onSpins n) (wholeLines h)) (sh′ : SoundTerms sameItems (onSpins n) (wholeLines h′))
+    (sw : SoundTerms sameKey (pairOnSpins n) (wholeLines w)) (sw′ : SoundTerms sameKey (pairOnSpins n) (wholeLines w′))
+    (h-whole : each (λ x xs. bothWhole (x .1)) h ≡ true) (h-whole′ : each (λ x xs. bothWhole (x .1)) h′ ≡ true)
+    (w-whole : each (λ x xs. bothWhole (x .1)) w ≡ true) (w-whole′ : each (λ x xs. bothWhole (x .1)) w′ ≡ true) where
+  SameRows : Type 0
+  SameRows = (r : ℕ) → r < 2 ^ n * 2 ^ n → exactRowOf (wholeContributions n r (wholeLines h) (wholeLines w)) ≡ exactRowOf (wholeContributions n r (wholeLines h′) (wholeLines w′))
+
+  pages-from-rows : SameRows → SamePage sameItems h h′ × SamePage sameKey w w′
+  unfolding SameRows
+  pages-from-rows e =
+      let f = rows-entries n (wholeLines h) (wholeLines h′) (wholeLines w) (wholeLines w′) (sound-fits n (wholeLines h) sh) (sound-fits n (wholeLines h′) sh′) (sound-pairs-fit n (wholeLines w) sw) (sound-pairs-fit n (wholeLines w′) sw′) in
+      let t = entries-determine n (wholeLines h) (wholeLines w) (wholeLines h′) (wholeLines w′) (record { hamiltonian = sh; noise = sw }) (record { hamiltonian = sh′; noise = sw′ }) .0 (f .0 e) in
+      (pages-same sameItems h h′ h-whole h-whole′ .0 (t .0), pages-same sameKey w w′ w-whole w-whole′ .0 (t .1))
+
+  rows-from-pages : SamePage sameItems h h′ → SamePage sameKey w w′ → SameRows
+  unfolding SameRows
+  rows-from-pages p q =
+      let f = rows-entries n (wholeLines h) (wholeLines h′) (wholeLines w) (wholeLines w′) (sound-fits n (wholeLines h) sh) (sound-fits n (wholeLines h′) sh′) (sound-pairs-fit n (wholeLines w) sw) (sound-pairs-fit n (wholeLines w′) sw′) in
+      f .1 (entries-determine n (wholeLines h) (wholeLines w) (wholeLines h′) (wholeLines w′) (record { hamiltonian = sh; noise = sw }) (record { hamiltonian = sh′; noise = sw′ }) .1
+      (pages-same sameItems h h′ h-whole h-whole′ .1 p, pages-same sameKey w w′ w-whole w-whole′ .1 q))
+
+-- ---- a system after calls
+
+-- results of a mapped list
+concatMap-map : {A B C : Type 0} (f : A → B) (g : B → List C) (l : List A) → concatMap g (map f l) ≡ concatMap (λ x. g (f x)) l
+unfolding concatMap
+concatMap-map f g [] = refl
+concatMap-map f g (x ∷ l) = ap (λ m. g (f x) ++ m) (concatMap-map f g l)
+
+-- the row of the lines that the reference model has
+lineRow : ℕ → Model → ℕ → List (ℕ × G)
+lineRow n m r = exactRowOf (wholeContributions n r (wholeLines (m .hamiltonian)) (wholeLines (m .noise)))
+
+-- `group` accepts valid sets
+group-accepts : (h : PauliHamiltonian) (w : PauliLindbladNoiseOperator) → reals.validSet h ≡ true → pairs.validSet (w .set) ≡ true → groupAnswer h w .1 ≡ record { system = h; noise = w }
+unfolding groupAnswer
+group-accepts h w v u =
+    past P (reals.validSet h) _ _ _ _ (λ e. absurd (clash (sym v ∙ e))) (λ a.
+    past P (pairs.validSet (w .set)) _ _ _ _ (λ e. absurd (clash (sym u ∙ e))) (λ b. refl))
+  where
+    P : PauliOpenSystem → Type 0
+    P s = s ≡ record { system = h; noise = w }
+
+-- a system's contributions are those of its lines
+contributions : (n r : ℕ) (h : PauliHamiltonian) (w : NoiseSet) → exactContributions n r (hamiltonianTerms h) (pairs.heldBy w) ≡ wholeContributions n r (wholeLines (realLines h)) (wholeLines (noiseLines w))
+unfolding exactContributions wholeContributions
+contributions n r h w =
+    ap₂ _++_
+    (concatMap-map _ (exactCommutatorPart n r) (reals.heldBy h) ∙ sym (concatMap-map _ _ (linesOf realTerms realPart (reals.heldBy h)) ∙ concatMap-map _ _ (reals.heldBy h)))
+    (sym (concatMap-map _ _ (linesOf pairTerms itself (pairs.heldBy w)) ∙ concatMap-map _ _ (pairs.heldBy w)))
+
+module _ (calls : List Call) where
+  abbrev model : Model
+  model = modelAfter calls
+
+  held : Holds (setsAfter calls) model
+  held = holds-after calls
+
+  -- `group` accepts both sets
+  pub grouped : systemAfter calls ≡ record { system = setsAfter calls .hamiltonian; noise = record { set = setsAfter calls .noise } }
+  unfolding systemAfter
+  grouped = group-accepts (setsAfter calls .hamiltonian) (record { set = setsAfter calls .noise }) (held .hamiltonian-valid) (held .noise-valid)
+
+  row-of-lines : (n r : ℕ) → exactEntriesOf (systemAfter calls) n r ≡ lineRow n model r
+  unfolding lineRow exactEntriesOf
+  row-of-lines n r = ap (λ s. exactEntriesOf s n r) grouped ∙ ap exactRowOf (contributions n r (setsAfter calls .hamiltonian) (setsAfter calls .noise)) ∙ ap₂ (λ h w. exactRowOf (wholeContributions n r (wholeLines h) (wholeLines w))) (held .hamiltonian) (held .noise)
+
+  module _ (n : ℕ) (p : Premises n model) where
+    h-sound : SoundTerms sameItems (onSpins n) (wholeLines (model .hamiltonian))
+    h-sound =
+        let e = sym (held .hamiltonian) in
+        subst (λ l. SoundTerms sameItems (onSpins n) (wholeLines l)) (held .hamiltonian)
+        (sound-hamiltonian n (setsAfter calls .hamiltonian) (held .hamiltonian-valid)
+        (subst (λ l. each (λ x xs. leb (reach (x .0)) n) l ≡ true) e (p .hamiltonian-sites))
+        (subst (λ l. each (λ x xs. not (isEmpty (x .0))) l ≡ true) e (p .no-empty-product))
+        (subst (λ l. each (λ x xs. bothWhole (x .1)) l ≡ true) e (p .hamiltonian-whole)))
+
+    w-sound : SoundTerms sameKey (pairOnSpins n) (wholeLines (model .noise))
+    w-sound =
+        let e = sym (held .noise) in
+        subst (λ l. SoundTerms sameKey (pairOnSpins n) (wholeLines l)) (held .noise)
+        (sound-noise n (setsAfter calls .noise) (held .noise-valid)
+        (subst (λ l. each (λ x xs. leb (reach (x .0 .0)) n && leb (reach (x .0 .1)) n) l ≡ true) e (p .noise-sites))
+        (subst (λ l. each (λ x xs. bothWhole (x .1)) l ≡ true) e (p .noise-whole)))
+
+-- ---- the theorems
+
+pub condition-3 : Condition3
+unfolding RowsAgree lineRow SameRows
+condition-3 a b n p q = (there, back)
+  where
+    there : RowsAgree n (systemAfter a) (systemAfter b) → SameModel (modelAfter a) (modelAfter b)
+    there e =
+        let t = pages-from-rows n (modelAfter a .hamiltonian) (modelAfter b .hamiltonian) (modelAfter a .noise) (modelAfter b .noise)
+        (h-sound a n p) (h-sound b n q) (w-sound a n p) (w-sound b n q) (p .hamiltonian-whole) (q .hamiltonian-whole) (p .noise-whole) (q .noise-whole)
+        (λ r hr. sym (row-of-lines a n r) ∙ e r hr ∙ row-of-lines b n r) in
+        record { hamiltonian = t .0; noise = t .1 }
+
+    back : SameModel (modelAfter a) (modelAfter b) → RowsAgree n (systemAfter a) (systemAfter b)
+    back m r hr =
+        row-of-lines a n r
+        ∙ rows-from-pages n (modelAfter a .hamiltonian) (modelAfter b .hamiltonian) (modelAfter a .noise) (modelAfter b .noise)
+        (h-sound a n p) (h-sound b n q) (w-sound a n p) (w-sound b n q) (p .hamiltonian-whole) (q .hamiltonian-whole) (p .noise-whole) (q .noise-whole) (m .hamiltonian) (m .noise) r hr
+        ∙ sym (row-of-lines b n r)
+
+-- both sets of a system that number 0 lets pass
+system-valid : (s : PauliOpenSystem) → validSystem s ≡ true → (reals.validSet (s .system) ≡ true) × (pairs.validSet (s .noise .set) ≡ true)
+unfolding validSystem
+system-valid s v = go (reals.validSet (s .system)) refl v
+  where
+    go : (b : Bool) → reals.validSet (s .system) ≡ b → cond b (pairs.validSet (s .noise .set)) false ≡ true → (reals.validSet (s .system) ≡ true) × (pairs.validSet (s .noise .set) ≡ true)
+    go true e v = (e, v)
+    go false e v = absurd (clash (sym v))
+
+-- the system that a source is, as its calls make it
+source-is : (x : Source) → systemOf x ≡ systemAfter (callsOf x)
+source-is (made calls) = refl
+source-is (handedIn s v) = sym (grouped (callsThatSet (s .system) (s .noise .set)) ∙ (λ j. record { system = both j .hamiltonian; noise = record { set = both j .noise } }))
+  where
+    both : setsAfter (callsThatSet (s .system) (s .noise .set)) ≡ record { hamiltonian = s .system; noise = s .noise .set }
+    both = set-again (s .system) (s .noise .set) (system-valid s v .0) (system-valid s v .1)
+
+pub condition-3-handed-in : Condition3HandedIn
+condition-3-handed-in x y n p q =
+    subst (λ s. RowsAgree n s (systemOf y) ↔ SameModel (modelAfter (callsOf x)) (modelAfter (callsOf y))) (sym (source-is x))
+    (subst (λ s. RowsAgree n (systemAfter (callsOf x)) s ↔ SameModel (modelAfter (callsOf x)) (modelAfter (callsOf y))) (sym (source-is y))
+    (condition-3 (callsOf x) (callsOf y) n p q))

@@ -1,0 +1,98 @@
+-- Condition 3: for any two lists of calls, the exact rows of the two systems agree at every row exactly when the plain book ends the same for
+-- both. Document 01, `The book for condition 3`. Here are the statements; their proofs are `condition-3` and `condition-3-handed-in` in
+-- proofs/Condition3Theorem.
+use Prim.Native.Nat.{ℕ, _*_, _^_, _≤_, _<_}
+use mathlib.Core.Path.{_≡_}
+use mathlib.Core.Bool.{Bool, true, not, _&&_}
+use mathlib.Core.List.{List}
+use mathlib.Core.Logic.{_↔_}
+use lib.Dec.{leb}
+use lib.Ieee.{eq}
+use Rattle.refusal.specs.Refusals.{gives}
+use Rattle.complex.specs.declared.Complex.{Complex}
+use Rattle.complex.specs.Wholes.{bothWhole}
+use Rattle.products.specs.Record.{reach, sameItems}
+use Rattle.products.specs.Answers.{mostSpins}
+use Rattle.terms.specs.Keyed.{has, each}
+use Rattle.noise.specs.Pairs.{sameKey, isEmpty}
+use Rattle.open_system.specs.declared.PauliOpenSystem.{PauliOpenSystem}
+use Rattle.open_system.specs.OpenRows.{validSystem}
+use Rattle.open_system.specs.ExactRows.{exactRow, exactEntriesOf}
+use Rattle.open_system.specs.Grouping.{groupAnswer}
+use Rattle.condition3.specs.Calls.{Call, setsAfter, callsThatSet}
+use Rattle.condition3.specs.ReferenceModel.{Line, onLine, Model, modelAfter}
+
+-- ---- the premises, said of the lines that a system holds: "What a system holds is the lines of its book"
+
+-- n is "up to 31" and "above every site held"; the parts are "whole" and of at most 2^40; "no Hamiltonian term on the empty product"
+pub record Premises (n : ℕ) (m : Model) : Type 0 where
+  pub spins : n ≤ mostSpins
+  pub hamiltonian-sites : each (λ x xs. leb (reach (x .0)) n) (m .hamiltonian) ≡ true
+  pub noise-sites : each (λ x xs. leb (reach (x .0 .0)) n && leb (reach (x .0 .1)) n) (m .noise) ≡ true
+  pub hamiltonian-whole : each (λ x xs. bothWhole (x .1)) (m .hamiltonian) ≡ true
+  pub noise-whole : each (λ x xs. bothWhole (x .1)) (m .noise) ≡ true
+  pub no-empty-product : each (λ x xs. not (isEmpty (x .0))) (m .hamiltonian) ≡ true
+
+-- ---- the same pages
+
+-- "parts that are equal as numbers, +0 and -0 alike"
+unfoldable pub sameParts : Complex → Complex → Bool
+sameParts x y = eq (x .re) (y .re) && eq (x .im) (y .im)
+
+-- there is a line with the key k
+abbrev pub hasLine : {K : Type 0} → (K → K → Bool) → K → List (Line K) → Bool
+hasLine same k l = has (λ x. same (x .0) k) l
+
+-- "Pages are the same when they have the same keys and, under each, parts that are equal as numbers"
+pub record SamePage {K : Type 0} (same : K → K → Bool) (l m : List (Line K)) : Type 0 where
+  pub keys : (k : K) → hasLine same k l ≡ hasLine same k m
+  pub parts : (k : K) → hasLine same k l ≡ true → sameParts (onLine same k l) (onLine same k m) ≡ true
+
+pub record SameModel (a b : Model) : Type 0 where
+  pub hamiltonian : SamePage sameItems (a .hamiltonian) (b .hamiltonian)
+  pub noise : SamePage sameKey (a .noise) (b .noise)
+
+-- ---- rows
+
+-- "Exact rows agree at a row when the sums above give both systems the same columns with the same two parts in each"; "Every row means 0 to
+-- d·d - 1"
+unfoldable pub RowsAgree : ℕ → PauliOpenSystem → PauliOpenSystem → Type 0
+RowsAgree n s t = (r : ℕ) → r < 2 ^ n * 2 ^ n → exactEntriesOf s n r ≡ exactEntriesOf t n r
+
+-- "`group` then makes the system"
+unfoldable pub systemAfter : List Call → PauliOpenSystem
+systemAfter calls = groupAnswer (setsAfter calls .hamiltonian) (record { set = setsAfter calls .noise }) .1
+
+-- ---- one claim about two whole lists
+
+abbrev pub Condition3 : Type 0
+Condition3 =
+    (a b : List Call) (n : ℕ) → Premises n (modelAfter a) → Premises n (modelAfter b)
+    → RowsAgree n (systemAfter a) (systemAfter b) ↔ SameModel (modelAfter a) (modelAfter b)
+
+-- "this is what the exact row call delivers wherever the buffers hold it"
+abbrev pub RowsDelivered : Type 0
+RowsDelivered =
+    (a : List Call) (n r : ℕ) → Premises n (modelAfter a) → r < 2 ^ n * 2 ^ n
+    → exactRow (systemAfter a) n r ≡ gives (exactEntriesOf (systemAfter a) n r)
+
+-- ---- the same where either system is handed in
+
+-- a system: made by calls, or handed in and let pass by number 0
+pub data Source : Type 0 where
+  made : List Call → Source
+  handedIn : (s : PauliOpenSystem) → validSystem s ≡ true → Source
+
+abbrev pub systemOf : Source → PauliOpenSystem
+systemOf (made calls) = systemAfter calls
+systemOf (handedIn s v) = s
+
+-- "stands for the list that sets its terms in their order"
+abbrev pub callsOf : Source → List Call
+callsOf (made calls) = calls
+callsOf (handedIn s v) = callsThatSet (s .system) (s .noise .set)
+
+abbrev pub Condition3HandedIn : Type 0
+Condition3HandedIn =
+    (x y : Source) (n : ℕ) → Premises n (modelAfter (callsOf x)) → Premises n (modelAfter (callsOf y))
+    → RowsAgree n (systemOf x) (systemOf y) ↔ SameModel (modelAfter (callsOf x)) (modelAfter (callsOf y))
