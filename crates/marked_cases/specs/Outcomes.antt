@@ -27,9 +27,9 @@ use Rattle.rows.specs.Placing.{rowOf, nonzero}
 use Rattle.rows.specs.Sorting.{upTo}
 use Rattle.operators.specs.Reals.{complexOf}
 use Rattle.operators.specs.Reals as reals
-use Rattle.operators.specs.OperatorRows.{hamiltonianCommutatorRow}
+use Rattle.open_system.specs.OperatorRows.{hamiltonianCommutatorRow}
 use Rattle.noise.specs.Pairs as pairs
-use Rattle.noise.specs.NoiseRows as noise
+use Rattle.open_system.specs.NoiseRows as noise
 
 -- ---- the calls
 
