@@ -1,0 +1,58 @@
+-- `built_noise` is safe and ends: the index stays at most 64. Assumes nothing.
+use Prim.Native.Nat.{_≤_, _-_}
+use borrow.Author.Needs.{needs}
+use Rattle.comparison.proofs.arguments.built_noise.Statement.{statement}
+use Rattle.comparison.proofs.arguments.built_noise.Tie as tie
+
+abbrev Inv-loop : tie.InvT-loop
+Inv-loop next list n operator₀ refused₀ i₀ operator refused i = i ≤ 64
+
+abbrev μ-loop : tie.MeasureT-loop
+μ-loop next list n operator₀ refused₀ i₀ operator refused i = 64 - i
+
+new-requires : tie.Need-new-requires Inv-loop μ-loop
+new-requires c κs = search needs
+
+loop-holds : tie.Need-loop-holds Inv-loop μ-loop
+loop-holds c = search needs
+
+mul-t : tie.Need-mul-t Inv-loop μ-loop
+mul-t c = search needs
+
+element-copy-out-t : tie.Need-element-copy-out-t Inv-loop μ-loop
+element-copy-out-t c = search needs
+
+set-requires : tie.Need-set-requires Inv-loop μ-loop
+set-requires c κs = search needs
+
+set-refused-requires : tie.Need-set-refused-requires Inv-loop μ-loop
+set-refused-requires c κs = search needs
+
+add-i : tie.Need-add-i Inv-loop μ-loop
+add-i c = search needs
+
+loop-less : tie.Need-loop-less Inv-loop μ-loop
+loop-less c = search needs
+
+loop-again : tie.Need-loop-again Inv-loop μ-loop
+loop-again c = search needs
+
+returns : tie.Need-returns Inv-loop μ-loop
+returns c = search needs
+
+pub built-noise-spec : {M : Type 1} → statement M
+built-noise-spec =
+    tie.close
+    (tie.spec
+    Inv-loop
+    μ-loop
+    new-requires
+    loop-holds
+    mul-t
+    element-copy-out-t
+    set-requires
+    set-refused-requires
+    add-i
+    loop-less
+    loop-again
+    returns)
