@@ -42,7 +42,14 @@ pub(crate) fn operator_row(set: TermSet, spins: u32, row: u64) -> RowBuffers {
     let mut columns = old.columns;
     let mut re = old.re;
     let mut im = old.im;
-    let d = open_system::operator_row::operator_row(set, spins, row, &mut columns, &mut re, &mut im);
+    let d = open_system::operator_row::operator_row(
+        set,
+        spins,
+        row,
+        &mut columns,
+        &mut re,
+        &mut im,
+    );
     delivered(d, columns, re, im)
 }
 
@@ -67,7 +74,14 @@ pub(crate) fn hamiltonian_row(h: PauliHamiltonian, spins: u32, row: u64) -> RowB
     let mut columns = old.columns;
     let mut re = old.re;
     let mut im = old.im;
-    let d = open_system::operator_row::hamiltonian_row(h, spins, row, &mut columns, &mut re, &mut im);
+    let d = open_system::operator_row::hamiltonian_row(
+        h,
+        spins,
+        row,
+        &mut columns,
+        &mut re,
+        &mut im,
+    );
     delivered(d, columns, re, im)
 }
 
