@@ -21,11 +21,11 @@ use Rattle.noise.specs.declared.pauli_noise_operator.PauliLindbladNoiseOperator
 use Rattle.open_system.specs.declared.PauliOpenSystem.{PauliOpenSystem}
 use Rattle.open_system.specs.OpenRows.{validSystem}
 use Rattle.open_system.specs.OperatorRows.{hamiltonianTerms}
-use Rattle.superoperator.specs.Systems.{SoundTerms, Sound, SameTerms, onSpins, pairOnSpins, samePair}
+use Rattle.superoperator.specs.Systems.{SoundTerms, onSpins, pairOnSpins}
 use Rattle.superoperator.proofs.Determined.{entries-determine}
 use Rattle.complex.specs.Wholes.{bothWhole}
 use Rattle.rows.specs.ExactRows.{exactRowOf}
-use Rattle.open_system.specs.ExactRows.{exactContributions, exactCommutatorPart, exactNoisePart, exactEntriesOf}
+use Rattle.open_system.specs.ExactRows.{exactContributions, exactCommutatorPart, exactEntriesOf}
 use Rattle.open_system.specs.Grouping.{groupAnswer}
 use Rattle.condition3.specs.Calls.{Call, setsAfter, callsThatSet}
 use Rattle.condition3.specs.ReferenceModel.{Line, realPart, Model, modelAfter}

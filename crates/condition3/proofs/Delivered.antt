@@ -1,27 +1,23 @@
 -- Under the premises of condition 3 the exact row call is accepted, and gives the list that the statement compares.
 -- Assumes nothing.
 use Prim.Native.Nat.{ℕ, _*_, _^_, _≤_, _<_}
-use mathlib.Core.Path.{_≡_, refl, sym, ap, ap₂, subst, _∙_}
-use mathlib.Core.Bool.{Bool, true, false, not, _&&_, cond}
-use mathlib.Core.List.{List, [], _∷_, _++_, map}
-use lib.Dec.{ltb, leb}
-use lib.Ieee.{Float}
+use mathlib.Core.Path.{_≡_, refl, sym, ap, subst, _∙_}
+use mathlib.Core.Bool.{true, _&&_}
+use mathlib.Core.List.{List, [], _∷_, map}
+use lib.Dec.{leb}
 use borrow.Author.Tests.{le-ltb, lt-leb, leb-true}
 use Rattle.refusal.specs.Refusals.{gives}
 use Rattle.letters.proofs.TestLaws.{and-true, and-left, and-right}
-use Rattle.complex.specs.Complex.{plusZero}
-use Rattle.complex.specs.Wholes.{isWhole, bothWhole}
+use Rattle.complex.specs.Wholes.{bothWhole}
 use Rattle.products.specs.Record.{reach}
 use Rattle.products.specs.Answers.{mostSpins}
 use Rattle.products.specs.declared.items.Items.{Items}
 use Rattle.terms.specs.Keyed.{each, concatMap}
 use Rattle.terms.proofs.KeyedLaws.{each-head, each-tail}
 use Rattle.rows.specs.Calls.{outside, unlessOutside, checkedRow}
-use Rattle.operators.specs.Reals.{realTerms}
 use Rattle.operators.specs.Reals as reals
 use Rattle.operators.specs.declared.pauli_hamiltonian.RealTerm.{RealTerm}
 use Rattle.operators.specs.declared.pauli_hamiltonian.PauliHamiltonian.{PauliHamiltonian}
-use Rattle.noise.specs.Pairs.{pairTerms}
 use Rattle.noise.specs.Pairs as pairs
 use Rattle.noise.specs.declared.noise_set.NoiseTerm.{NoiseTerm}
 use Rattle.noise.specs.declared.noise_set.NoiseSet.{NoiseSet}
@@ -32,11 +28,8 @@ use Rattle.open_system.specs.OpenRows.{validSystem, itemsOf}
 use Rattle.open_system.specs.ExactRows.{wholeTerms, unlessNotWhole, exactRowOfTerms, exactRow, exactEntriesOf}
 use Rattle.open_system.proofs.OutsideLaws.{outside-none, first-inside, outside-past}
 use Rattle.condition3.specs.ReferenceModel.{realPart, modelAfter}
-use Rattle.condition3.specs.Calls.{Call, setsAfter}
-use Rattle.condition3.specs.Condition3.{Premises, systemAfter, RowsDelivered}
-use Rattle.condition3.proofs.LineLaws.{linesOf}
-use Rattle.condition3.proofs.HamiltonianLines.{realLines}
-use Rattle.condition3.proofs.NoiseLines.{noiseLines, itself}
+use Rattle.condition3.specs.Calls.{setsAfter}
+use Rattle.condition3.specs.Condition3.{RowsDelivered}
 use Rattle.condition3.proofs.ModelLaws.{Holds, holds-after}
 use Rattle.condition3.proofs.SoundLines.{each-map}
 use Rattle.condition3.proofs.Condition3Theorem.{grouped}

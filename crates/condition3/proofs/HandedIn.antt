@@ -1,11 +1,10 @@
 -- A system handed in that number 0 lets pass is what the list that sets its terms in their order makes.
 -- Assumes nothing.
-use Prim.Native.Nat.{ℕ, _+_, _≤_, _<_}
+use Prim.Native.Nat.{_+_, _≤_, _<_}
 use native.Mathlib.Omega.{arith}
 use mathlib.Core.Path.{_≡_, refl, sym, ap, subst, _∙_}
-use mathlib.Core.Bool.{Bool, true, false, not, _||_, _&&_, cond, or-true}
+use mathlib.Core.Bool.{Bool, true, false, not, _||_, _&&_, or-true}
 use mathlib.Core.List.{List, [], _∷_, _++_, map, append-nil, append-assoc}
-use lib.Dec.{ltb}
 use lib.Ieee.{eq}
 use lib.ListN.{length, length-append}
 use borrow.Author.Tests.{lt-ltb, not-true}
@@ -40,7 +39,7 @@ use Rattle.noise.specs.declared.noise_set.NoiseSet.{NoiseSet}
 use Rattle.noise.proofs.SetLaws.{noiseSets}
 use Rattle.noise.proofs.ValidLaws.{validNoiseSets}
 use Rattle.noise.proofs.ValidLaws as pairs_valid
-use Rattle.condition3.specs.Calls.{setHamiltonian, setNoise, Sets, called, setsAfter, callsThatSet}
+use Rattle.condition3.specs.Calls.{setHamiltonian, setNoise, called, setsAfter, callsThatSet}
 
 -- ---- a term with a new key is written at the end
 

@@ -1,6 +1,7 @@
 pub mod LineLaws
 pub mod AnswerLaws
 pub mod PageLaws
+pub mod SetLines
 pub mod HamiltonianLines
 pub mod NoiseLines
 pub mod ModelLaws

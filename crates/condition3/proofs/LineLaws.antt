@@ -1,13 +1,13 @@
 -- The terms of a set as lines of the reference model: what setting, adding and a chain of additions do to the terms, they do to the lines.
 -- For any kind of terms whose coefficients are complex numbers or real ones.
 -- Assumes nothing.
-use Prim.Native.Nat.{ℕ, suc, _+_, _≤_, _<_}
+use Prim.Native.Nat.{_+_, _≤_}
 use native.Mathlib.Omega.{arith}
-use mathlib.Core.Path.{_≡_, refl, sym, ap, ap₂, _∙_}
+use mathlib.Core.Path.{_≡_, refl, sym, ap, _∙_}
 use mathlib.Core.Bool.{Bool, true, false, not, _||_, cond}
 use mathlib.Core.List.{List, [], _∷_, map}
 use mathlib.Core.Option.{Option, none, some}
-use lib.Dec.{ltb, leb}
+use lib.Dec.{ltb}
 use lib.ListN.{length, length-map, length-append}
 use borrow.Author.Tests.{lt-ltb, le-ltb, ltb-true, ltb-false}
 use Rattle.complex.specs.Complex.{plusZero, sumOf, isZero}
@@ -17,7 +17,7 @@ use Rattle.terms.specs.Kind.{Terms}
 use Rattle.terms.specs.Setting.{mostTerms, keyed, coefficientAt, write, hasRoom, added, addAll}
 use Rattle.terms.proofs.SettingLaws.{write-length}
 use Rattle.terms.proofs.KeyedLaws.{length-struck, length-replaced, nowhere, has-false}
-use Rattle.condition3.specs.ReferenceModel.{Line, realPart, strikeOut, replaceOrAppend, writeLine, onLine, addLine, addLines, unlessFull}
+use Rattle.condition3.specs.ReferenceModel.{Line, realPart, strikeOut, replaceOrAppend, writeLine, onLine, addLine, addLines}
 
 module _ {K N : Type 0} (S : Terms K N) (parts : N → Complex) where
   -- a term as a line

@@ -1,31 +1,28 @@
 -- Calls on a noise set: it stays valid, and its terms are the lines that the reference model has after the call.
 -- Assumes nothing.
-use Prim.Native.Nat.{ℕ, _≤_}
-use native.Mathlib.Omega.{arith}
+use Prim.Native.Nat.{_≤_}
 use mathlib.Core.Path.{_≡_, refl, sym, ap, _∙_}
 use mathlib.Core.Bool.{Bool, true, false, not, _&&_, _||_, cond}
-use mathlib.Core.List.{List, [], _∷_, _++_, map}
+use mathlib.Core.List.{List, [], _∷_, _++_}
 use mathlib.Core.Option.{Option, none, some}
 use lib.Dec.{eqb}
 use lib.ListN.{length}
 use Rattle.letters.proofs.TestLaws.{and-true, and-left, and-false}
-use Rattle.complex.specs.Complex.{isZero, inRange, productOf, conjugateOf}
+use Rattle.complex.specs.Complex.{isZero, inRange}
 use Rattle.complex.specs.declared.Complex.{Complex}
 use Rattle.complex.proofs.FloatLaws.{clash}
 use Rattle.products.specs.Record.{valid}
-use Rattle.products.specs.declared.items.Items.{Items}
 use Rattle.terms.specs.Keyed.{each, concatMap}
-use Rattle.terms.specs.Setting.{mostTerms, write, hasRoom, added, addAll}
+use Rattle.terms.specs.Setting.{mostTerms, addAll}
 use Rattle.terms.specs.Chains.{pairTerms as fullTerms}
 use Rattle.terms.specs.Entries as entries
 use Rattle.terms.proofs.KeyedLaws.{map-append}
-use Rattle.terms.proofs.SettingLaws.{each-write}
 use Rattle.terms.proofs.EachLaws.{each-follows}
 use Rattle.operators.specs.Complexes.{complexTerms, complexProducts}
 use Rattle.operators.specs.Complexes as operators
 use Rattle.operators.specs.declared.term_set.Term.{Term}
 use Rattle.operators.specs.declared.term_set.TermSet.{TermSet}
-use Rattle.noise.specs.Pairs.{Key, sameKey, pairTerms, isEmpty, heldBy, filled, goodCoefficient, validSet}
+use Rattle.noise.specs.Pairs.{Key, sameKey, pairTerms, isEmpty, heldBy, goodCoefficient, validSet}
 use Rattle.noise.specs.Answers.{validKey, emptySide, setPair, addPair, addFullOperators, allInRange, collected}
 use Rattle.noise.specs.declared.noise_set.NoiseTerm.{NoiseTerm}
 use Rattle.noise.specs.declared.noise_set.NoiseSet.{NoiseSet}
@@ -35,9 +32,10 @@ use Rattle.terms.proofs.ValidSetLaws as valid_sets
 use Rattle.noise.proofs.ValidLaws.{same-key-equal, validNoiseSets}
 use Rattle.noise.proofs.NoiseValidAnswers as answers
 use Rattle.condition3.specs.ReferenceModel.{Line, writeLine, addLine, addLines, unlessFull, linesInRange, unlessRefused, lawfulPair, lawfulOperators, fullLines}
-use Rattle.condition3.proofs.LineLaws.{lineOf, linesOf, Faithful, lines-write, lines-add, linesIf, lines-addAll}
+use Rattle.condition3.proofs.LineLaws.{lineOf, linesOf, Faithful, linesIf, lines-addAll}
 use Rattle.condition3.proofs.AnswerLaws.{past, unless, either}
-use Rattle.condition3.proofs.PageLaws.{arguments-refused, range-refused, call-accepted, range-is, written-out, kept-full, kept-out, written-in}
+use Rattle.condition3.proofs.PageLaws.{arguments-refused, range-refused, call-accepted, range-is}
+use Rattle.condition3.proofs.SetLines.{set-lines, add-lines}
 
 -- the two parts of a complex coefficient
 abbrev pub itself : Complex → Complex
@@ -59,12 +57,6 @@ module _ (s : NoiseSet) (v : validSet s ≡ true) where
       (λ t ts e. and-left (inRange (t .coefficient)) (not (isZero (t .coefficient))) e) (heldBy s) (valid_sets.valid-coefficients validNoiseSets s v)
 
   module _ (k : Key) (a : Complex) where
-    -- the terms are in range after one that is in range is written
-    written-range : (b : Complex) → inRange b ≡ true → linesInRange (linesOf pairTerms itself (write pairTerms k b (heldBy s))) ≡ true
-    written-range b r =
-        range-is pairTerms itself (write pairTerms k b (heldBy s))
-        ∙ each-write pairTerms (λ t. inRange (t .coefficient)) k b (heldBy s) ranges r
-
     -- its arguments are refused, or not
     bad-product : validKey k ≡ false → lawfulPair k a ≡ false
     unfolding lawfulPair
@@ -88,52 +80,27 @@ module _ (s : NoiseSet) (v : validSet s ≡ true) where
     pub add-pair-valid : validSet (addPair s k a .1) ≡ true
     add-pair-valid = either (λ x. validSet x ≡ true) s (addPair s k a) (λ o. answers.add-valid s k a) (answers.add-refused s k a) v
 
-    abbrev setPage : List (Line Key)
-    setPage = writeLine sameKey k a (noiseLines s)
-
-    pub set-pair-lines : noiseLines (setPair s k a .1) ≡ unlessRefused (lawfulPair k a) (unlessFull setPage) (noiseLines s)
+    pub set-pair-lines : noiseLines (setPair s k a .1) ≡ unlessRefused (lawfulPair k a) (unlessFull (writeLine sameKey k a (noiseLines s))) (noiseLines s)
     unfolding setPair
     set-pair-lines =
         past P (validSet s) _ _ _ _ (λ e. absurd (clash (sym v ∙ e))) (λ u.
-        past P (validKey k) _ _ _ _ (λ e. sym (arguments-refused (lawfulPair k a) (noiseLines s) (bad-product e) (unlessFull setPage))) (λ w.
-        unless P (emptySide k) _ _ _ _ (λ e. sym (arguments-refused (lawfulPair k a) (noiseLines s) (bad-side e) (unlessFull setPage))) (λ n.
-        past P (inRange a) _ _ _ _ (λ e. sym (arguments-refused (lawfulPair k a) (noiseLines s) (bad-value e) (unlessFull setPage))) (λ r.
-        past P (hasRoom pairTerms k a (heldBy s)) _ _ _ _ (λ e. kept-full pairTerms itself pairs-faithful (lawfulPair k a) k a (heldBy s) setPage page few e) (λ e.
-        ap (linesOf pairTerms itself) (held-filled noiseSets (write pairTerms k a (heldBy s)))
-        ∙ written-in pairTerms itself pairs-faithful (lawfulPair k a) k a (heldBy s) setPage page few (good-arguments w n r) e (ap linesInRange (sym page) ∙ written-range a r))))))
+        past P (validKey k) _ _ _ _ (λ e. sym (arguments-refused (lawfulPair k a) (noiseLines s) (bad-product e) _)) (λ w.
+        unless P (emptySide k) _ _ _ _ (λ e. sym (arguments-refused (lawfulPair k a) (noiseLines s) (bad-side e) _)) (λ n.
+        set-lines pairTerms itself pairs-faithful noiseSets inRange (λ z. refl) s k a few ranges (lawfulPair k a) bad-value (good-arguments w n) _)))
       where
         P : NoiseSet → Type 0
-        P x = noiseLines x ≡ unlessRefused (lawfulPair k a) (unlessFull setPage) (noiseLines s)
+        P x = noiseLines x ≡ unlessRefused (lawfulPair k a) (unlessFull (writeLine sameKey k a (noiseLines s))) (noiseLines s)
 
-        page : linesOf pairTerms itself (write pairTerms k a (heldBy s)) ≡ setPage
-        page = lines-write pairTerms itself pairs-faithful k a (heldBy s)
-
-    abbrev addPage : List (Line Key)
-    addPage = addLine sameKey k a (noiseLines s)
-
-    pub add-pair-lines : noiseLines (addPair s k a .1) ≡ unlessRefused (lawfulPair k a) (unlessFull addPage) (noiseLines s)
-    unfolding addPair addLine
+    pub add-pair-lines : noiseLines (addPair s k a .1) ≡ unlessRefused (lawfulPair k a) (unlessFull (addLine sameKey k a (noiseLines s))) (noiseLines s)
+    unfolding addPair
     add-pair-lines =
         past P (validSet s) _ _ _ _ (λ e. absurd (clash (sym v ∙ e))) (λ u.
-        past P (validKey k) _ _ _ _ (λ e. sym (arguments-refused (lawfulPair k a) (noiseLines s) (bad-product e) (unlessFull addPage))) (λ w.
-        unless P (emptySide k) _ _ _ _ (λ e. sym (arguments-refused (lawfulPair k a) (noiseLines s) (bad-side e) (unlessFull addPage))) (λ n.
-        past P (inRange a) _ _ _ _ (λ e. sym (arguments-refused (lawfulPair k a) (noiseLines s) (bad-value e) (unlessFull addPage))) (λ r.
-        past P (hasRoom pairTerms k b (heldBy s)) _ _ _ _ (λ e. kept-full pairTerms itself pairs-faithful (lawfulPair k a) k b (heldBy s) addPage page few e) (λ e.
-        past P (inRange b) _ _ _ _ (λ o. kept-out pairTerms itself pairs-faithful (lawfulPair k a) k b (heldBy s) addPage page (out o)) (λ o.
-        ap (linesOf pairTerms itself) (held-filled noiseSets (write pairTerms k b (heldBy s)))
-        ∙ written-in pairTerms itself pairs-faithful (lawfulPair k a) k b (heldBy s) addPage page few (good-arguments w n r) e (ap linesInRange (sym page) ∙ written-range b o)))))))
+        past P (validKey k) _ _ _ _ (λ e. sym (arguments-refused (lawfulPair k a) (noiseLines s) (bad-product e) _)) (λ w.
+        unless P (emptySide k) _ _ _ _ (λ e. sym (arguments-refused (lawfulPair k a) (noiseLines s) (bad-side e) _)) (λ n.
+        add-lines pairTerms itself pairs-faithful noiseSets inRange (λ z. refl) s k a few ranges (lawfulPair k a) bad-value (good-arguments w n))))
       where
-        b : Complex
-        b = added pairTerms k a (heldBy s)
-
         P : NoiseSet → Type 0
-        P x = noiseLines x ≡ unlessRefused (lawfulPair k a) (unlessFull addPage) (noiseLines s)
-
-        page : linesOf pairTerms itself (write pairTerms k b (heldBy s)) ≡ addPage
-        page = lines-add pairTerms itself pairs-faithful k a (heldBy s)
-
-        out : inRange b ≡ false → linesInRange addPage ≡ false
-        out o = ap linesInRange (sym page ∙ lines-write pairTerms itself pairs-faithful k b (heldBy s)) ∙ written-out sameKey k b (noiseLines s) o
+        P x = noiseLines x ≡ unlessRefused (lawfulPair k a) (unlessFull (addLine sameKey k a (noiseLines s))) (noiseLines s)
 
 -- ---- full operators
 

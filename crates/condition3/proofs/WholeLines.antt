@@ -1,11 +1,9 @@
 -- Lines with whole parts as terms with whole coefficients: pages are the same exactly if these terms are, and the terms of a valid set are sound.
 -- Assumes nothing.
-use Prim.Native.Nat.{ℕ}
-use mathlib.Core.Path.{_≡_, refl, sym, ap, ap₂, _∙_}
-use mathlib.Core.Bool.{Bool, true, false, not, _&&_, _||_, cond}
+use mathlib.Core.Path.{_≡_, refl, sym, ap, _∙_}
+use mathlib.Core.Bool.{Bool, true, false, not, _||_, cond}
 use mathlib.Core.List.{List, [], _∷_, map}
 use mathlib.Core.Logic.{_↔_}
-use lib.IntN.{ℤ, pos}
 use lib.Ieee.{eq}
 use Rattle.letters.specs.Gauss.{G, 𝟘, eqG}
 use Rattle.letters.proofs.GaussLaws.{eqG-true}
@@ -18,7 +16,7 @@ use Rattle.terms.specs.Setting.{coefficientAt, keyed}
 use Rattle.terms.specs.Gaussian.{gaussian}
 use Rattle.terms.proofs.KeyedLaws.{each-head, each-tail}
 use Rattle.superoperator.specs.Systems.{SameTerms}
-use Rattle.complex.specs.Wholes.{isWhole, bothWhole, partsOf}
+use Rattle.complex.specs.Wholes.{isWhole, bothWhole}
 use Rattle.open_system.specs.ExactRows.{gaussOf}
 use Rattle.condition3.specs.ReferenceModel.{Line, realPart, onLine}
 use Rattle.condition3.specs.Condition3.{sameParts, hasLine, SamePage}

@@ -1,8 +1,7 @@
 -- The reference model: document 01's plain book. It is fed the calls, keeps lines on two pages, and looks at no record of a set.
 -- Document 01, `The book for condition 3` and `Numbers of the no`.
-use Prim.Native.Nat.{ℕ}
 use mathlib.Core.Bool.{Bool, true, false, not, _&&_, _||_, cond}
-use mathlib.Core.List.{List, [], _∷_, _++_}
+use mathlib.Core.List.{List, [], _∷_}
 use mathlib.Core.Option.{Option, none, some}
 use lib.Dec.{ltb, eqb}
 use lib.ListN.{length}

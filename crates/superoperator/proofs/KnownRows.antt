@@ -16,7 +16,9 @@ use Rattle.terms.specs.Keyed.{each}
 use Rattle.terms.proofs.KeyedLaws.{each-cons, each-head, each-tail}
 use Rattle.rows.specs.Placing.{rowOf, nonzero}
 use Rattle.rows.specs.Sums.{Ascending, Below, contributionsTo, sumAt, valueAt}
-use Rattle.rows.proofs.PlacingLaws.{none-before, same-numbers, row-ascending, row-below, nonzero-ascending, value-row, value-nonzero}
+use Rattle.rows.specs.ExactRows.{exactRowOf}
+use Rattle.rows.proofs.PlacingLaws.{none-before, same-numbers, row-below}
+use Rattle.rows.proofs.ExactLaws.{exact-value, exact-ascending}
 
 -- no number is zero
 abbrev pub NoZero : List (ℕ × G) → Type 0
@@ -85,24 +87,15 @@ nonzero-below d (x ∷ xs) b = go (eqG (x .1) 𝟘) (nonzero-below d xs (b .1))
     go true r = r
     go false r = (b .0, r)
 
--- the row of contributions, zero sums left out
-abbrev pub exactOf : List (ℕ × G) → List (ℕ × G)
-exactOf es = nonzero (λ x. eqG x 𝟘) (rowOf _⊕_ es)
-
 -- two such rows are one exactly where the sums at the columns below d are
-pub exact-rows-known : (d : ℕ) (es fs : List (ℕ × G)) → Below d es → Below d fs → (exactOf es ≡ exactOf fs) ↔ ((c : ℕ) → c < d → sumAt c es ≡ sumAt c fs)
+pub exact-rows-known : (d : ℕ) (es fs : List (ℕ × G)) → Below d es → Below d fs → (exactRowOf es ≡ exactRowOf fs) ↔ ((c : ℕ) → c < d → sumAt c es ≡ sumAt c fs)
+unfolding exactRowOf
 exact-rows-known d es fs be bf =
-    (λ e c h. sym (value c es) ∙ known .0 e c h ∙ value c fs, λ e. known .1 (λ c h. value c es ∙ e c h ∙ sym (value c fs)))
+    (λ e c h. sym (exact-value c es) ∙ known .0 e c h ∙ exact-value c fs, λ e. known .1 (λ c h. exact-value c es ∙ e c h ∙ sym (exact-value c fs)))
   where
-    value : (c : ℕ) (es : List (ℕ × G)) → valueAt c (exactOf es) ≡ sumAt c es
-    value c es = value-nonzero 0 c (rowOf _⊕_ es) (row-ascending _⊕_ es) ∙ value-row c es
-
-    up : (es : List (ℕ × G)) → Ascending 0 (exactOf es)
-    up es = nonzero-ascending 0 (λ x. eqG x 𝟘) (rowOf _⊕_ es) (row-ascending _⊕_ es)
-
-    within : (es : List (ℕ × G)) → Below d es → Below d (exactOf es)
+    within : (es : List (ℕ × G)) → Below d es → Below d (exactRowOf es)
     within es b = nonzero-below d (rowOf _⊕_ es) (row-below _⊕_ d es b)
 
-    known : (exactOf es ≡ exactOf fs) ↔ ((c : ℕ) → c < d → valueAt c (exactOf es) ≡ valueAt c (exactOf fs))
+    known : (exactRowOf es ≡ exactRowOf fs) ↔ ((c : ℕ) → c < d → valueAt c (exactRowOf es) ≡ valueAt c (exactRowOf fs))
     known =
-        rows-known-below d (exactOf es) (exactOf fs) (up es) (up fs) (nonzero-none (rowOf _⊕_ es)) (nonzero-none (rowOf _⊕_ fs)) (within es be) (within fs bf)
+        rows-known-below d (exactRowOf es) (exactRowOf fs) (exact-ascending es) (exact-ascending fs) (nonzero-none (rowOf _⊕_ es)) (nonzero-none (rowOf _⊕_ fs)) (within es be) (within fs bf)
