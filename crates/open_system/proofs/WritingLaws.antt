@@ -8,7 +8,8 @@ use lib.Ieee.{Float}
 use lib.ListN.{length, take, getD}
 use Rattle.complex.specs.Complex.{productOf, unitOfI}
 use Rattle.complex.specs.declared.Complex.{Complex}
-use Rattle.letters.specs.Matrices.{Letters}
+use Rattle.letters.specs.Matrices.{lettersOf}
+use Rattle.letters.specs.declared.Kind.{Kind}
 use Rattle.products.specs.Record.{letterAt}
 use Rattle.products.specs.declared.items.Items.{Items}
 use Rattle.terms.specs.Keyed.{concatMap}
@@ -19,7 +20,7 @@ use Rattle.rows.specs.Contributions.{operatorTerms, commutatorTerms, noiseTerms
 use Rattle.rows.specs.Entries.{entryOf, commutatorEntries, noiseEntries}
 use Rattle.rows.specs.Buffers.{TwoParts, floatParts, Long, entriesIn}
 use Rattle.rows.proofs.ArrayLaws.{entriesIn-none}
-use Rattle.rows.proofs.EntryLaws.{operator-terms, commutator-contributes, noise-contributes}
+use Rattle.rows.proofs.EntryLaws.{of-kind, operator-terms, commutator-contributes, noise-contributes}
 use Rattle.operators.specs.declared.term_set.Term.{Term}
 use Rattle.operators.proofs.CopyLaws.{take-held}
 use Rattle.noise.specs.declared.noise_set.NoiseTerm.{NoiseTerm}
@@ -33,13 +34,13 @@ use Rattle.open_system.proofs.AcceptedLaws.{accepted-first, accepted-re
 -- in any numbers: x and y are the entries that the code finds, a and b the values that it puts
 module _ {C N : Type 0} (A : Numbers C N) (c : C) (n r : ℕ) where
   -- one contribution, with the column and power x
-  put-operator : (M : Letters) (p : Items) → Accepted n (2 ^ n) r (p ∷ []) → {x : ℕ × ℕ} → x ≡ entryOf M p n r → {a : N} → a ≡ A .scaled (x .1) c
-      → (l : List (ℕ × N)) {l′ : List (ℕ × N)} → l′ ≡ l ++ (x .0, a) ∷ [] → l′ ≡ l ++ operatorTerms A n M r (letterAt p) c
-  put-operator M p k {x} e ea l put =
+  put-operator : (kind : Kind) (p : Items) → Accepted n (2 ^ n) r (p ∷ []) → {x : ℕ × ℕ} → x ≡ entryOf (lettersOf kind) p n r → {a : N} → a ≡ A .scaled (x .1) c
+      → (l : List (ℕ × N)) {l′ : List (ℕ × N)} → l′ ≡ l ++ (x .0, a) ∷ [] → l′ ≡ l ++ operatorTerms A n (lettersOf kind) r (letterAt p) c
+  put-operator kind p k {x} e ea l put =
       put
       ∙ ap (λ (v : N). l ++ (x .0, v) ∷ []) ea
       ∙ ap (λ (q : ℕ × ℕ). l ++ (q .0, A .scaled (q .1) c) ∷ []) e
-      ∙ ap (λ (q : List (ℕ × N)). l ++ q) (sym (operator-terms A c n (k .few) M p (accepted-first p [] k) r (k .below)))
+      ∙ ap (λ (q : List (ℕ × N)). l ++ q) (sym (operator-terms A c n (k .few) (of-kind kind) p (accepted-first p [] k) r (k .below)))
 
   pub put-commutator : (p : Items) → Accepted n (2 ^ n * 2 ^ n) r (p ∷ []) → {left right : ℕ × ℕ} → left ∷ right ∷ [] ≡ commutatorEntries p n r
       → {a b : N} → a ≡ A .scaled (left .1) c → b ≡ A .scaled (right .1) c
@@ -76,10 +77,10 @@ module _ {C N : Type 0} (A : Numbers C N) (c : C) (n r : ℕ) where
 
 -- in f64: a value is the coefficient times the unit u
 module _ (t : Term) (n r : ℕ) where
-  pub operator-put : (M : Letters) → Accepted n (2 ^ n) r (t .items ∷ []) → {x : ℕ × ℕ} → x ≡ entryOf M (t .items) n r
+  pub operator-put : (kind : Kind) → Accepted n (2 ^ n) r (t .items ∷ []) → {x : ℕ × ℕ} → x ≡ entryOf (lettersOf kind) (t .items) n r
       → {u a : Complex} → u ≡ unitOfI (x .1) → a ≡ productOf (t .coefficient) u
-      → (l : List (ℕ × Complex)) {l′ : List (ℕ × Complex)} → l′ ≡ l ++ (x .0, a) ∷ [] → l′ ≡ l ++ operatorPart M n r t
-  operator-put M k e eu ea = put-operator floats (t .coefficient) n r M (t .items) k e (ea ∙ ap (productOf (t .coefficient)) eu)
+      → (l : List (ℕ × Complex)) {l′ : List (ℕ × Complex)} → l′ ≡ l ++ (x .0, a) ∷ [] → l′ ≡ l ++ operatorPart (lettersOf kind) n r t
+  operator-put kind k e eu ea = put-operator floats (t .coefficient) n r kind (t .items) k e (ea ∙ ap (productOf (t .coefficient)) eu)
 
   pub commutator-put : Accepted n (2 ^ n * 2 ^ n) r (t .items ∷ []) → {left right : ℕ × ℕ} → left ∷ right ∷ [] ≡ commutatorEntries (t .items) n r
       → {u v a b : Complex} → u ≡ unitOfI (left .1) → a ≡ productOf (t .coefficient) u → v ≡ unitOfI (right .1) → b ≡ productOf (t .coefficient) v

@@ -12,6 +12,7 @@ pub mod TargetLaws
 pub mod RemapLaws
 pub mod ChangeLaws
 pub mod RowLaws
+pub mod WalkLaws
 pub mod ComparisonLaws
 pub mod OrderingLaws
 pub mod OrderLaws

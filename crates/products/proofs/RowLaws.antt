@@ -201,7 +201,7 @@ turned-more {kind} {p} {r} {i} {column} {power} {place} {here} v small h l u e =
 
 -- all places: the column and the power over any spins that hold the product and the row
 pub turned-done : {kind : Kind} {p : Items} {r i column power : ℕ} → valid p ≡ true → Turned kind p r i column power → p .count ≤ i → (n : ℕ) → reach p ≤ n → r < 2 ^ n
-    → _≡_ {A = Said (ℕ × ℕ)} (gives (column, power)) (gives (columnOf (lettersOf kind) n (letterAt p) r, rowPower (lettersOf kind) n (letterAt p) r))
+    → _≡_ {A = ℕ × ℕ} (column, power) (columnOf (lettersOf kind) n (letterAt p) r, rowPower (lettersOf kind) n (letterAt p) r)
 unfolding columnOf rowPower
 turned-done {kind} {p} {r} {i} {column} {power} v h l n in-n row-n =
     let C = columnPart kind p r in
@@ -213,7 +213,7 @@ turned-done {kind} {p} {r} {i} {column} {power} v h l n in-n row-n =
     let bits : total D n ≡ r = binary-bits n r ∙ mod-eq-of-lt row-n in
     let cs : column ≡ total C n = go column _ _ _ _ (h .columns) alike bits in
     let ks : power ≡ total K n % 4 = h .powers ∙ ap (λ t. t % 4) (sym (total-above K (h .bound) n le (λ t a b. free-power kind p r t (free t a)))) in
-    ap₂ (λ c k. gives (c, k)) cs ks
+    ap₂ (λ c k. (c, k)) cs ks
   where
     go : (column Cn Db Dn Cb : ℕ) → column + Db ≡ Cb + r → Cn + Db ≡ Dn + Cb → Dn ≡ r → column ≡ Cn
     go column Cn Db Dn Cb a b c = omega arith

@@ -1,12 +1,11 @@
 // The row of a product's matrix: one entry is not zero.
 ghost use mathlib.Core.Path.{_≡_};
-ghost use mathlib.Core.Bool.{true};
-ghost use Prim.Native.Nat.{ℕ, _+_, _^_, _<_, _≤_};
-ghost use Rattle.refusal.specs.Refusals.{gives};
+ghost use Prim.Native.Nat.{ℕ, _+_, _^_, _<_};
 ghost use Rattle.letters.specs.Matrices.{lettersOf};
 ghost use Rattle.letters.specs.Single.{cell};
-ghost use Rattle.letters.specs.Rows.{columnOf, rowPower};
-ghost use Rattle.products.specs.Record.{valid, letterAt, reach};
+ghost use Rattle.products.specs.Lists.{smaller};
+ghost use Rattle.products.specs.Record.{reach};
+ghost use Rattle.products.specs.Walks.{walkOf};
 ghost use Rattle.products.specs.Answers.{saidRow, rowAnswer};
 use crate::items::CAPACITY;
 use crate::items::Items;
@@ -65,24 +64,36 @@ pub fn reach_of(p: Items) -> usize
     after(p.sites[count - 1])
 }
 
-// The entry of a row that is not zero: a free site leaves the row's bit as it is.
-fn entry(kind: Kind, p: Items, row: u64) -> ItemsRow
-    requires { ⌜ (valid p ≡ true) × (row < 2 ^ 31) ⌝ }
-    ensures { λ r. ⌜ ((n : ℕ) → reach p ≤ n → row < 2 ^ n → saidRow r ≡ gives (columnOf (lettersOf kind) n (letterAt p) row, rowPower (lettersOf kind) n (letterAt p) row)) ⌝ }
+// How many places a record with such a count has.
+fn places_of(count: usize) -> usize
+    ensures { λ r. ⌜ r ≡ smaller count 31 ⌝ }
 {
-    let count = p.count;
+    if count < CAPACITY { count } else { CAPACITY }
+}
+
+// Where a pass over a record's places ends: a column and a power of i.
+pub struct WalkEnd {
+    pub column: u64,
+    pub power: u8,
+}
+
+// The row turned into a column, place by place: a free site leaves the bit as it is. Number 0 isn't judged.
+pub fn walked(kind: Kind, p: Items, row: u64) -> WalkEnd
+    ensures { λ r. ⌜ _≡_ {A = ℕ × ℕ} (r .column, r .power) (walkOf (lettersOf kind) p row) ⌝ }
+{
+    let count = places_of(p.count);
     let mut column = row;
     let mut power: u8 = 0;
     let mut i: usize = 0;
     while i < count {
-        let place = place_of(p.sites[i] as u32);
-        let bit = row / place % 2;
-        let here = letter_cell(kind, p.letters[i], bit);
+        let place = place_of((p.sites[i] % 64) as u32);
+        let bit = column / place % 2;
+        let here = letter_cell(kind, p.letters[i] % 4, bit);
         column = column - bit * place + ((here % 2) as u64) * place;
         power = (power + here / 2) % 4;
         i += 1;
     }
-    ItemsRow::Entry(column, power)
+    WalkEnd { column, power }
 }
 
 // The column and the power of i of the entry of `row` that is not zero, over `spins` spins.
@@ -102,5 +113,6 @@ pub fn row(kind: Kind, p: Items, spins: u32, row: u64) -> ItemsRow
     if (spins as usize) < reach {
         return ItemsRow::Refused(Refusal::SiteOutsideSpins(reach - 1));
     }
-    entry(kind, p, row)
+    let w = walked(kind, p, row);
+    ItemsRow::Entry(w.column, w.power)
 }

@@ -1,26 +1,29 @@
 -- The entries found from the products' own rows: their columns are in the matrix and their powers below 4, so that their pairs fit 64 bits;
 -- and scaled they are the contributions of a term to a row. Assumes nothing.
-use mathlib.Core.Path.{_≡_, refl, sym, ap, _∙_}
-use mathlib.Core.Bool.{Bool, true, false, not, cond}
+use mathlib.Core.Path.{_≡_, refl, sym, ap, subst, _∙_}
+use mathlib.Core.Bool.{Bool, true, false, cond}
 use mathlib.Core.List.{List, [], _∷_, map}
 use Prim.Native.Nat.{ℕ, _+_, _-_, _*_, _/_, _%_, _^_, _≤_, _<_}
-use native.Mathlib.Nat.{mod-lt, div-lt-iff-lt-mul}
+use native.Mathlib.Nat.{mod-lt, mod-eq-of-lt, div-lt-iff-lt-mul}
 use native.Mathlib.Omega.{arith}
-use lib.Dec.{ltb, leb}
+use lib.Dec.{ltb}
 use lib.Arith.{digits-lt}
 use lib.Pow.{pow-add, pow-mono, pow-pos}
 use borrow.Author.Tests.{le-ltb, lt-ltb}
-use Rattle.refusal.specs.Refusals.{Said, gives, refuses}
-use Rattle.letters.specs.Matrices.{Letters, pauli, decoherence}
+use Rattle.letters.specs.Matrices.{Letters, pauli, decoherence, lettersOf}
 use Rattle.letters.specs.Rows.{columnOf, rowPower}
+use Rattle.letters.specs.declared.Kind.{Kind}
+use Rattle.letters.specs.declared.Kind.the-variants.{Pauli, Decoherence}
 use Rattle.letters.proofs.Letterings.{columnOf-lt}
 use Rattle.products.specs.Record.{valid, letterAt, reach}
-use Rattle.products.specs.Answers.{rowAnswer, mostSpins}
+use Rattle.products.specs.Answers.{mostSpins}
+use Rattle.products.specs.Walks.{walkOf}
 use Rattle.products.specs.declared.items.Items.{Items}
-use Rattle.products.proofs.RowLaws.{row-inside}
+use Rattle.products.proofs.RowLaws.{row-small}
+use Rattle.products.proofs.WalkLaws.{walk-power-lt, walk-inside}
 use Rattle.rows.specs.Numbers.{Numbers}
 use Rattle.rows.specs.Contributions.{operatorTerms, commutatorTerms, noiseTerms}
-use Rattle.rows.specs.Entries.{found, entryOf, commutatorEntries, noiseEntries}
+use Rattle.rows.specs.Entries.{entryOf, commutatorEntries, noiseEntries}
 
 -- ---- bounds
 
@@ -29,31 +32,25 @@ pub record Small (n : ℕ) (x : ℕ × ℕ) : Type 0 where
   pub column : x .0 < 2 ^ n
   pub power : x .1 < 4
 
--- a refusal counts as (0, 0), which is small
-small-past : (n : ℕ) (b : Bool) (k : ℕ) (l : List ℕ) (z : Said (ℕ × ℕ)) → Small n (found z) → Small n (found (cond b (refuses k l) z))
-small-past n true k l z h = record { column = pow-pos n; power = omega arith }
-small-past n false k l z h = h
-
--- the power of a row's entry
-row-power-lt : (M : Letters) (n : ℕ) (f : ℕ → ℕ) (r : ℕ) → rowPower M n f r < 4
-unfolding rowPower
-row-power-lt M n f r = mod-lt _ (omega arith)
-
--- every entry is small, also that of a row that is refused
+-- every entry is small, also one that means nothing
 pub entry-small : (M : Letters) (p : Items) (n r : ℕ) → Small n (entryOf M p n r)
-unfolding entryOf rowAnswer
-entry-small M p n r =
-    let z₄ : Said (ℕ × ℕ) = gives (columnOf M n (letterAt p) r, rowPower M n (letterAt p) r) in
-    let z₃ : Said (ℕ × ℕ) = cond (ltb n (reach p)) (refuses 8 ((reach p - 1) ∷ [])) z₄ in
-    let z₂ : Said (ℕ × ℕ) = cond (leb (2 ^ n) r) (refuses 9 []) z₃ in
-    let z₁ : Said (ℕ × ℕ) = cond (ltb mostSpins n) (refuses 7 []) z₂ in
-    small-past n (not (valid p)) 0 [] z₁
-    (small-past n (ltb mostSpins n) 7 [] z₂
-    (small-past n (leb (2 ^ n) r) 9 [] z₃
-    (small-past n (ltb n (reach p)) 8 ((reach p - 1) ∷ []) z₄
-    (record { column = columnOf-lt M n (letterAt p) r; power = row-power-lt M n (letterAt p) r }))))
+unfolding entryOf
+entry-small M p n r = go (ltb mostSpins n)
+  where
+    go : (b : Bool) → Small n (cond b (0, 0) (walkOf M p r .0 % 2 ^ n, walkOf M p r .1))
+    go true = record { column = pow-pos n; power = omega arith }
+    go false = record { column = mod-lt _ (pow-pos n); power = walk-power-lt M p r }
 
--- the same of what equals an entry
+-- what the code finds: too many spins, and the end of the pass, its column within the matrix
+pub entry-none : (M : Letters) (p : Items) (n r : ℕ) → mostSpins < n → (0, 0) ≡ entryOf M p n r
+unfolding entryOf
+entry-none M p n r h = rw (lt-ltb mostSpins n h)
+
+pub entry-found : (M : Letters) (p : Items) (n r : ℕ) {d : ℕ} {w : ℕ × ℕ} → n ≤ mostSpins → w ≡ walkOf M p r → d ≡ 2 ^ n → (w .0 % d, w .1) ≡ entryOf M p n r
+unfolding entryOf
+entry-found M p n r h e s = rw (le-ltb mostSpins n h, e, s)
+
+-- what equals an entry is small
 pub found-small : (M : Letters) (p : Items) (n r : ℕ) {x : ℕ × ℕ} → x ≡ entryOf M p n r → Small n x
 found-small M p n r e = rw e (entry-small M p n r)
 
@@ -112,23 +109,48 @@ noise-found p q n row h d a b m a′ b′ w a″ b″ jump left right = rw (le-l
 
 -- ---- a product that fits n spins
 
+-- the letters of one of the two kinds
+pub record OfKind (M : Letters) : Type 0 where
+  pub kind : Kind
+  pub is : lettersOf kind ≡ M
+
+pub of-kind : (kind : Kind) → OfKind (lettersOf kind)
+of-kind kind = record { kind = kind; is = refl }
+
+pauli-kind : OfKind pauli
+unfolding lettersOf
+pauli-kind = of-kind Pauli
+
+decoherence-kind : OfKind decoherence
+unfolding lettersOf
+decoherence-kind = of-kind Decoherence
+
 -- the entry of a row is that of the product's letters
-pub entry-inside : (M : Letters) (p : Items) (n r : ℕ) → valid p ≡ true → reach p ≤ n → n ≤ mostSpins → r < 2 ^ n
+pub entry-inside : {M : Letters} → OfKind M → (p : Items) (n r : ℕ) → valid p ≡ true → reach p ≤ n → n ≤ mostSpins → r < 2 ^ n
     → entryOf M p n r ≡ (columnOf M n (letterAt p) r, rowPower M n (letterAt p) r)
 unfolding entryOf
-entry-inside M p n r v o h l = ap found (sym (row-inside M p n r v h refl l refl o))
+entry-inside o p n r v s h l =
+    subst (λ M. entryOf M p n r ≡ (columnOf M n (letterAt p) r, rowPower M n (letterAt p) r)) (o .is) (go (o .kind))
+  where
+    go : (kind : Kind) → entryOf (lettersOf kind) p n r ≡ (columnOf (lettersOf kind) n (letterAt p) r, rowPower (lettersOf kind) n (letterAt p) r)
+    go kind =
+        rw (
+          le-ltb mostSpins n h,
+          walk-inside kind p v r (row-small n h refl l) n s l,
+          mod-eq-of-lt (columnOf-lt (lettersOf kind) n (letterAt p) r),
+        ) refl
 
 -- a product that is valid, with every site below n
 pub record Within (n : ℕ) (p : Items) : Type 0 where
   pub held : valid p ≡ true
   pub sites-below : reach p ≤ n
 
-module _ (M : Letters) (n : ℕ) (h : n ≤ mostSpins) (p : Items) (w : Within n p) (r : ℕ) (l : r < 2 ^ n) where
+module _ {M : Letters} (o : OfKind M) (n : ℕ) (h : n ≤ mostSpins) (p : Items) (w : Within n p) (r : ℕ) (l : r < 2 ^ n) where
   column-inside : columnOf M n (letterAt p) r ≡ entryOf M p n r .0
-  column-inside = sym (ap (λ (x : ℕ × ℕ). x .0) (entry-inside M p n r (w .held) (w .sites-below) h l))
+  column-inside = sym (ap (λ (x : ℕ × ℕ). x .0) (entry-inside o p n r (w .held) (w .sites-below) h l))
 
   power-inside : rowPower M n (letterAt p) r ≡ entryOf M p n r .1
-  power-inside = sym (ap (λ (x : ℕ × ℕ). x .1) (entry-inside M p n r (w .held) (w .sites-below) h l))
+  power-inside = sym (ap (λ (x : ℕ × ℕ). x .1) (entry-inside o p n r (w .held) (w .sites-below) h l))
 
 -- ---- the contributions of a term, from its entries
 
@@ -147,9 +169,9 @@ module _ {C N : Type 0} (A : Numbers C N) (c : C) where
 
   module _ (n : ℕ) (h : n ≤ mostSpins) where
     -- an operator's row
-    pub operator-terms : (M : Letters) (p : Items) → Within n p → (r : ℕ) → r < 2 ^ n → operatorTerms A n M r (letterAt p) c ≡ whole (entryOf M p n r) ∷ []
+    pub operator-terms : {M : Letters} → OfKind M → (p : Items) → Within n p → (r : ℕ) → r < 2 ^ n → operatorTerms A n M r (letterAt p) c ≡ whole (entryOf M p n r) ∷ []
     unfolding operatorTerms
-    operator-terms M p w r l = rw (column-inside M n h p w r l, power-inside M n h p w r l)
+    operator-terms o p w r l = rw (column-inside o n h p w r l, power-inside o n h p w r l)
 
     module _ (r : ℕ) (l : r < 2 ^ n * 2 ^ n) where
       first-below : r / 2 ^ n < 2 ^ n
@@ -166,10 +188,10 @@ module _ {C N : Type 0} (A : Numbers C N) (c : C) where
           let b = entryOf pauli p n (r % 2 ^ n) .0 in
           rw (
             le-ltb mostSpins n h,
-            column-inside pauli n h p w k first-below,
-            power-inside pauli n h p w k first-below,
-            column-inside pauli n h p w (r % 2 ^ n) second-below,
-            power-inside pauli n h p w b (entry-small pauli p n (r % 2 ^ n) .column),
+            column-inside pauli-kind n h p w k first-below,
+            power-inside pauli-kind n h p w k first-below,
+            column-inside pauli-kind n h p w (r % 2 ^ n) second-below,
+            power-inside pauli-kind n h p w b (entry-small pauli p n (r % 2 ^ n) .column),
           )
 
       -- a noise row: the jump whole, the halves by -1/2
@@ -183,18 +205,18 @@ module _ {C N : Type 0} (A : Numbers C N) (c : C) where
           let m′-below : m′ < 2 ^ n = entry-small decoherence p n (r % 2 ^ n) .column in
           rw (
             le-ltb mostSpins n h,
-            column-inside decoherence n h p w k first-below,
-            power-inside decoherence n h p w k first-below,
-            column-inside decoherence n h q v (r % 2 ^ n) second-below,
-            power-inside decoherence n h q v (r % 2 ^ n) second-below,
-            column-inside decoherence n h q v k first-below,
-            column-inside decoherence n h p w (r % 2 ^ n) second-below,
-            column-inside decoherence n h p w m m-below,
-            power-inside decoherence n h q v m m-below,
-            power-inside decoherence n h p w m m-below,
-            column-inside decoherence n h q v m′ m′-below,
-            power-inside decoherence n h q v m′ m′-below,
-            power-inside decoherence n h p w m′ m′-below,
+            column-inside decoherence-kind n h p w k first-below,
+            power-inside decoherence-kind n h p w k first-below,
+            column-inside decoherence-kind n h q v (r % 2 ^ n) second-below,
+            power-inside decoherence-kind n h q v (r % 2 ^ n) second-below,
+            column-inside decoherence-kind n h q v k first-below,
+            column-inside decoherence-kind n h p w (r % 2 ^ n) second-below,
+            column-inside decoherence-kind n h p w m m-below,
+            power-inside decoherence-kind n h q v m m-below,
+            power-inside decoherence-kind n h p w m m-below,
+            column-inside decoherence-kind n h q v m′ m′-below,
+            power-inside decoherence-kind n h q v m′ m′-below,
+            power-inside decoherence-kind n h p w m′ m′-below,
           )
 
       -- the same from the entries that the code finds

@@ -1,22 +1,18 @@
 -- The columns and powers of i that products contribute to a row, found from their own rows: what `commutatorTerms` and `noiseTerms` scale.
--- A row that a product does not have (number 0, 7, 8 or 9 of `rowAnswer`) counts as column 0 with power 0.
+-- Of a product that has the row (EntryLaws: `entry-inside`) these are its entries; of any other they mean nothing, and stay in the matrix.
 use Prim.Native.Nat.{ℕ, _+_, _*_, _/_, _%_, _^_}
 use mathlib.Core.Bool.{cond}
 use mathlib.Core.List.{List, [], _∷_}
 use lib.Dec.{ltb}
-use Rattle.refusal.specs.Refusals.{Said, gives, refuses}
 use Rattle.letters.specs.Matrices.{Letters, pauli, decoherence}
-use Rattle.products.specs.Answers.{rowAnswer, mostSpins}
+use Rattle.products.specs.Answers.{mostSpins}
+use Rattle.products.specs.Walks.{walkOf}
 use Rattle.products.specs.declared.items.Items.{Items}
 use Rattle.rows.specs.Contributions.{pairColumn}
 
--- the column and the power of a row's answer
-abbrev pub found : Said (ℕ × ℕ) → ℕ × ℕ
-found (gives x) = x
-found (refuses k l) = (0, 0)
-
+-- the column and the power of a row
 unfoldable pub entryOf : Letters → Items → ℕ → ℕ → ℕ × ℕ
-entryOf M p n r = found (rowAnswer M p n r)
+entryOf M p n r = cond (ltb mostSpins n) (0, 0) (walkOf M p r .0 % 2 ^ n, walkOf M p r .1)
 
 -- the two entries of a Pauli product in a commutator's row r = (k, l)
 unfoldable pub commutatorEntries : Items → ℕ → ℕ → List (ℕ × ℕ)

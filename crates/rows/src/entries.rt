@@ -8,9 +8,8 @@ ghost use Rattle.rows.specs.Entries.{entryOf, commutatorEntries, noiseEn
 use complex::Complex;
 use letters::Kind;
 use products::items::Items;
-use products::items::ItemsRow;
 use products::row::MOST_SPINS;
-use products::row::row as product_row;
+use products::row::walked;
 
 // A column and a power of i.
 pub struct Entry {
@@ -50,16 +49,20 @@ fn paired(size: u64, a: u64, b: u64, power: u8) -> Entry
     }
 }
 
-// The entry of a product's own row.
+// The entry of a product's own row. Number 0 isn't judged again: the sets that products come from have been.
 pub fn operator_entry(kind: Kind, p: Items, spins: u32, row: u64) -> Entry
     ensures { λ r. ⌜ _≡_ {A = ℕ × ℕ} (r .column, r .power) (entryOf (lettersOf kind) p spins row) ⌝ }
 {
-    match product_row(kind, p, spins, row) {
-        ItemsRow::Entry(column, power) => Entry { column, power },
-        ItemsRow::Refused(_) => Entry {
+    if MOST_SPINS < spins {
+        return Entry {
             column: 0,
             power: 0,
-        },
+        };
+    }
+    let w = walked(kind, p, row);
+    Entry {
+        column: w.column % size_of(spins),
+        power: w.power,
     }
 }
 

@@ -63,7 +63,7 @@ loop-again c =
     let s = l .before .before in
     let a = s .args in
     writing-more (l .loop .inv) _ (turn .loop-test .taken) refl
-    (λ ok. operator-put _ (a .spins) (a .row) (lettersOf (a .kind)) (product-accepted (a .t2 .terms) (a .t2 .count) _ (l .loop .inv .whole) (l .loop .inv .few) (turn .loop-test .taken) (ok .1)) (e .operator-entry .ensures) (value .before .unit-of-i .ensures) (value .product .ensures) (entries (l .loop .columns) (l .loop .re) (l .loop .im) (l .loop .i)) (c .put .ensures (l .loop .inv .long ok) .0))
+    (λ ok. operator-put _ (a .spins) (a .row) (a .kind) (product-accepted (a .t2 .terms) (a .t2 .count) _ (l .loop .inv .whole) (l .loop .inv .few) (turn .loop-test .taken) (ok .1)) (e .operator-entry .ensures) (value .before .unit-of-i .ensures) (value .product .ensures) (entries (l .loop .columns) (l .loop .re) (l .loop .im) (l .loop .i)) (c .put .ensures (l .loop .inv .long ok) .0))
     (λ ok. c .put .ensures (l .loop .inv .long ok) .1)
 
 returns : tie.Need-returns Inv-loop μ-loop

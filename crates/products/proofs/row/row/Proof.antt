@@ -1,12 +1,14 @@
 -- `row::row`: each refusal by the tests on the way, the entry by the pass over the places.
 -- Assumes nothing.
-use mathlib.Core.Path.{sym, _∙_}
+use mathlib.Core.Path.{sym, ap, _∙_}
 use Prim.Native.Nat.{_^_, _≤_, _<_}
 use native.Mathlib.Omega.{arith}
 use borrow.Author.Tests.{not-true, not-false}
 use borrow.Author.Needs.{needs}
+use Rattle.refusal.specs.Refusals.{gives}
 use Rattle.products.specs.Record.{reach}
 use Rattle.products.proofs.RowLaws.{row-malformed, row-spins, row-range, row-outside, row-inside, row-small}
+use Rattle.products.proofs.WalkLaws.{walk-inside}
 use Rattle.products.proofs.row.row.Statement.{statement}
 use Rattle.products.proofs.row.row.Tie as tie
 
@@ -28,22 +30,25 @@ returns-3 c = row-range _ _ _ _ (sym (c .before .before .before .before .is-vali
 reach-of-requires : tie.Need-reach-of-requires
 reach-of-requires c κs = search needs
 
-sub-t13 : tie.Need-sub-t13
-sub-t13 c = search needs
+sub-t14 : tie.Need-sub-t14
+sub-t14 c = search needs
 
 returns-4 : tie.Need-returns-4
 returns-4 c = row-outside _ _ _ _ (sym (c .before .before .before .before .before .before .is-valid .ensures) ∙ not-false _ (c .before .before .before .before .before .if1 .left)) (c .before .before .before .before .if2 .left) (c .before .before .before .place-of .ensures) (c .before .before .if3 .left) (c .before .reach-of .ensures) (c .if4 .taken)
 
-entry-requires : tie.Need-entry-requires
-entry-requires c κs = (sym (c .before .before .before .before .before .before .is-valid .ensures) ∙ not-false _ (c .before .before .before .before .before .if1 .left), row-small _ (c .before .before .before .before .if2 .left) (c .before .before .before .place-of .ensures) (c .before .before .if3 .left))
+walked-requires : tie.Need-walked-requires
+walked-requires c κs = search needs
 
 returns-5 : tie.Need-returns-5
 returns-5 c =
     let n = c .before .before .before .before .before .before .before .before .args .spins in
     let q : reach (c .before .before .before .before .before .before .before .before .args .p) ≤ n = omega (arith, c .before .before .reach-of .ensures) in
     let r : c .before .before .before .before .before .before .before .before .args .row < 2 ^ n = omega (arith, c .before .before .before .before .place-of .ensures) in
-    c .entry .ensures n q r
-    ∙ row-inside _ _ _ _ (sym (c .before .before .before .before .before .before .before .is-valid .ensures) ∙ not-false _ (c .before .before .before .before .before .before .if1 .left)) (c .before .before .before .before .before .if2 .left) (c .before .before .before .before .place-of .ensures) (c .before .before .before .if3 .left) (c .before .before .reach-of .ensures) (c .before .if4 .left)
+    let v = sym (c .before .before .before .before .before .before .before .is-valid .ensures) ∙ not-false _ (c .before .before .before .before .before .before .if1 .left) in
+    let few = c .before .before .before .before .before .if2 .left in
+    let size = c .before .before .before .before .place-of .ensures in
+    ap gives (c .walked .ensures ∙ walk-inside _ _ v _ (row-small _ few size (c .before .before .before .if3 .left)) n q r)
+    ∙ row-inside _ _ _ _ v few size (c .before .before .before .if3 .left) (c .before .before .reach-of .ensures) (c .before .if4 .left)
 
 pub row-spec : {M : Type 1} → statement M
 row-spec =
@@ -55,7 +60,7 @@ row-spec =
     place-of-requires
     returns-3
     reach-of-requires
-    sub-t13
+    sub-t14
     returns-4
-    entry-requires
+    walked-requires
     returns-5)

@@ -1,29 +1,26 @@
--- `entries::operator_entry`: what `row` answers, with (0, 0) for a refusal.
+-- `entries::operator_entry`: where the pass over the product ends, its column within the matrix.
 -- Assumes nothing.
-use mathlib.Core.Path.{ap, sym, _∙_}
 use borrow.Author.Needs.{needs}
-use Rattle.products.specs.Answers.{saidRow}
-use Rattle.rows.specs.Entries.{found, entryOf}
+use Rattle.products.proofs.RowLaws.{unit-positive}
+use Rattle.rows.proofs.EntryLaws.{entry-none, entry-found}
 use Rattle.rows.proofs.entries.operator_entry.Statement.{statement}
 use Rattle.rows.proofs.entries.operator_entry.Tie as tie
 
-row-requires : tie.Need-row-requires
-row-requires c κs = search needs
-
-enum-known-column : tie.Need-enum-known-column
-enum-known-column c = search needs
-
-enum-told : tie.Need-enum-told
-enum-told c = search needs
-
 returns : tie.Need-returns
-unfolding entryOf
-returns c = ap found (ap saidRow (sym (c .before .column .given .1)) ∙ c .before .before .before .row .ensures)
+returns c = entry-none _ _ _ _ (c .if1 .taken)
+
+walked-requires : tie.Need-walked-requires
+walked-requires c κs = search needs
+
+size-of-requires : tie.Need-size-of-requires
+size-of-requires c κs = search needs
+
+rem-t8 : tie.Need-rem-t8
+rem-t8 c = unit-positive _ (c .before .size-of .ensures)
 
 returns-2 : tie.Need-returns-2
-unfolding entryOf
-returns-2 c = ap found (ap saidRow (sym (c .enum-told .given .1)) ∙ c .before .before .row .ensures)
+returns-2 c = entry-found _ _ _ _ (c .before .before .before .if1 .left) (c .before .before .walked .ensures) (c .before .size-of .ensures)
 
 pub operator-entry-spec : {M : Type 1} → statement M
 operator-entry-spec =
-    tie.close (tie.spec row-requires enum-known-column enum-told returns returns-2)
+    tie.close (tie.spec returns walked-requires size-of-requires rem-t8 returns-2)
