@@ -2,14 +2,16 @@
 ghost use mathlib.Core.Path.{_≡_};
 ghost use mathlib.Core.Bool.{not, _&&_, cond};
 ghost use Prim.Native.Nat.{_+_, _<_, _≤_};
+ghost use lib.Dec.{eqb};
 ghost use lib.ListN.{getD, drop};
 ghost use mathlib.Core.List.{[], map};
 ghost use Rattle.refusal.specs.Refusals.{gives};
 ghost use Rattle.complex.specs.Complex.{isZero, inRange};
+ghost use Rattle.letters.specs.Tests.{every};
 ghost use Rattle.terms.specs.Keyed.{firstAt, held, omitted, each};
 ghost use Rattle.terms.specs.Setting.{keyed, coefficientAt, write, hasRoom};
 ghost use Rattle.operators.specs.Answers.{saidGet, saidSet};
-ghost use Rattle.noise.specs.Pairs.{pairTerms, blank, heldBy, filled, goodTerm, isBlank, validSet};
+ghost use Rattle.noise.specs.Pairs.{pairTerms, blank, heldBy, filled, goodKey, goodCoefficient, goodTerm, isBlank, validSet};
 ghost use Rattle.noise.specs.Answers.{validKey, emptySide, toldSet, told, getPair, setPair, addPair};
 use complex::Complex;
 use operators::term_set::GetAnswer;
@@ -185,11 +187,17 @@ fn was(s: NoiseSet, left: Items, right: Items) -> SetAnswer
 fn is_blank(t: NoiseTerm) -> bool
     ensures { λ r. ⌜ r ≡ isBlank t ⌝ }
 {
+    let p = t.left;
+    let q = t.right;
     let c = t.coefficient;
-    if has_key(t, products::items::empty(), products::items::empty()) {
-        if complex::is_plus_zero(c.re) {
-            return complex::is_plus_zero(c.im);
-        }
+    if !products::items::is_empty(p) {
+        return false;
+    }
+    if !products::items::is_empty(q) {
+        return false;
+    }
+    if complex::is_plus_zero(c.re) {
+        return complex::is_plus_zero(c.im);
     }
     false
 }
@@ -261,6 +269,68 @@ fn good_terms(s: NoiseSet) -> bool
     true
 }
 
+// Whether a term is as a valid set holds it, but for the keys of the others.
+fn good_alone(t: NoiseTerm) -> bool
+    ensures { λ r. ⌜ r ≡ (goodKey (t .left, t .right) && goodCoefficient (t .coefficient)) ⌝ }
+{
+    let p = t.left;
+    let q = t.right;
+    let c = t.coefficient;
+    if !valid_key(p, q) {
+        return false;
+    }
+    if empty_side(p, q) {
+        return false;
+    }
+    good_coefficient(c)
+}
+
+// Whether none of the first n places of both arrays has two numbers.
+fn is_new(lefts: &[u64; 64], rights: &[u64; 64], n: usize, left: u64, right: u64) -> bool
+    requires { ⌜ n ≤ 64 ⌝ }
+    ensures { λ r. ⌜ r ≡ every n (λ j. not (eqb (getD (now (lefts .entry)) j 0) left && eqb (getD (now (rights .entry)) j 0) right)) ⌝ }
+{
+    let mut j: usize = 0;
+    while j < n {
+        if lefts[j] == left {
+            if rights[j] == right {
+                return false;
+            }
+        }
+        j += 1;
+    }
+    true
+}
+
+// The same answer by the numbers of the keys: terms with different numbers have different keys, and only where two numbers repeat
+// are the keys compared.
+fn all_good(s: NoiseSet) -> bool
+    requires { ⌜ s .count ≤ 64 ⌝ }
+    ensures { λ r. ⌜ r ≡ each goodTerm (heldBy s) ⌝ }
+{
+    let n = s.count;
+    let mut lefts = [0u64; 64];
+    let mut rights = [0u64; 64];
+    let mut i: usize = 0;
+    while i < n {
+        let t = s.terms[i];
+        let p = t.left;
+        let q = t.right;
+        if !good_alone(t) {
+            return false;
+        }
+        let left = products::items::lettering_number(p);
+        let right = products::items::lettering_number(q);
+        if !is_new(&lefts, &rights, i, left, right) {
+            return good_terms(s);
+        }
+        lefts[i] = left;
+        rights[i] = right;
+        i += 1;
+    }
+    true
+}
+
 // Whether zero records stand past the count.
 fn blanks_past(s: NoiseSet) -> bool
     requires { ⌜ s .count ≤ 64 ⌝ }
@@ -284,7 +354,7 @@ pub fn is_valid(s: NoiseSet) -> bool
     if 64 < s.count {
         return false;
     }
-    if good_terms(s) {
+    if all_good(s) {
         return blanks_past(s);
     }
     false

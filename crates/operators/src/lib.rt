@@ -2,6 +2,7 @@
 pub mod chain;
 pub mod decoherence_operator;
 pub mod hamiltonian_product;
+mod numbers;
 pub mod pauli_hamiltonian;
 pub mod pauli_operator;
 pub mod term_set;

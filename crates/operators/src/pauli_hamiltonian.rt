@@ -7,12 +7,14 @@ ghost use lib.ListN.{getD, drop};
 ghost use mathlib.Core.List.{[], map};
 ghost use Rattle.refusal.specs.Refusals.{gives};
 ghost use Rattle.complex.specs.Complex.{plusZero, partInRange};
+ghost use Rattle.products.specs.Record.{valid};
 ghost use Rattle.terms.specs.Keyed.{firstAt, held, omitted, each};
 ghost use Rattle.terms.specs.Setting.{keyed, coefficientAt, write, hasRoom};
 ghost use Rattle.operators.specs.Answers.{saidGet, saidSet};
 ghost use Rattle.operators.specs.Complexes as complexes;
-ghost use Rattle.operators.specs.Reals.{realTerms, complexOf, complexTerm, blank, heldBy, filled, goodTerm, isBlank, validSet};
+ghost use Rattle.operators.specs.Reals.{realTerms, complexOf, complexTerm, blank, heldBy, filled, goodCoefficient, goodTerm, isBlank, validSet};
 ghost use Rattle.operators.specs.RealAnswers.{toldSet, told, getReal, setReal, addReal, conjugateReal};
+use crate::numbers::is_new;
 use crate::term_set::GetAnswer;
 use crate::term_set::SetAnswer;
 use crate::term_set::Term;
@@ -166,7 +168,7 @@ fn is_blank(t: RealTerm) -> bool
     ensures { λ r. ⌜ r ≡ isBlank t ⌝ }
 {
     let p = t.items;
-    if products::items::same(p, products::items::empty()) {
+    if products::items::is_empty(p) {
         return complex::is_plus_zero(t.coefficient);
     }
     false
@@ -209,6 +211,42 @@ fn good_terms(s: PauliHamiltonian) -> bool
         if !good_term(s, i) {
             return false;
         }
+        i += 1;
+    }
+    true
+}
+
+// Whether a term is as a Hamiltonian holds it, but for the keys of the others.
+fn good_alone(t: RealTerm) -> bool
+    ensures { λ r. ⌜ r ≡ (valid (t .items) && goodCoefficient (t .coefficient)) ⌝ }
+{
+    let p = t.items;
+    if products::items::is_valid(p) {
+        return good_coefficient(t.coefficient);
+    }
+    false
+}
+
+// The same answer by the numbers of the keys: terms with different numbers have different keys, and only where a number repeats
+// are the keys compared.
+fn all_good(s: PauliHamiltonian) -> bool
+    requires { ⌜ s .count ≤ 64 ⌝ }
+    ensures { λ r. ⌜ r ≡ each goodTerm (heldBy s) ⌝ }
+{
+    let n = s.count;
+    let mut numbers = [0u64; 64];
+    let mut i: usize = 0;
+    while i < n {
+        let t = s.terms[i];
+        let p = t.items;
+        if !good_alone(t) {
+            return false;
+        }
+        let x = products::items::lettering_number(p);
+        if !is_new(&numbers, i, x) {
+            return good_terms(s);
+        }
+        numbers[i] = x;
         i += 1;
     }
     true
@@ -271,7 +309,7 @@ impl PauliHamiltonian {
         if 64 < self.count {
             return false;
         }
-        if good_terms(self) {
+        if all_good(self) {
             return blanks_past(self);
         }
         false

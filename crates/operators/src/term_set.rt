@@ -6,10 +6,12 @@ ghost use lib.ListN.{getD, drop};
 ghost use mathlib.Core.List.{[], map};
 ghost use Rattle.refusal.specs.Refusals.{gives};
 ghost use Rattle.complex.specs.Complex.{isZero, inRange};
+ghost use Rattle.products.specs.Record.{valid};
 ghost use Rattle.terms.specs.Keyed.{firstAt, held, omitted, each};
 ghost use Rattle.terms.specs.Setting.{keyed, coefficientAt, write, hasRoom};
-ghost use Rattle.operators.specs.Complexes.{complexTerms, blank, heldBy, filled, goodTerm, isBlank, validSet};
+ghost use Rattle.operators.specs.Complexes.{complexTerms, blank, heldBy, filled, goodCoefficient, goodTerm, isBlank, validSet};
 ghost use Rattle.operators.specs.Answers.{saidGet, saidSet, toldSet, told, getTerm, setTerm, addTerm};
+use crate::numbers::is_new;
 use complex::Complex;
 use products::items::Items;
 use refusal::Outcome;
@@ -189,7 +191,7 @@ fn is_blank(t: Term) -> bool
 {
     let p = t.items;
     let c = t.coefficient;
-    if products::items::same(p, products::items::empty()) {
+    if products::items::is_empty(p) {
         if complex::is_plus_zero(c.re) {
             return complex::is_plus_zero(c.im);
         }
@@ -243,6 +245,43 @@ fn good_terms(zeros: bool, s: TermSet) -> bool
     true
 }
 
+// Whether a term is as a valid set holds it, but for the keys of the others.
+fn good_alone(zeros: bool, t: Term) -> bool
+    ensures { λ r. ⌜ r ≡ (valid (t .items) && goodCoefficient zeros (t .coefficient)) ⌝ }
+{
+    let p = t.items;
+    let c = t.coefficient;
+    if products::items::is_valid(p) {
+        return good_coefficient(zeros, c);
+    }
+    false
+}
+
+// The same answer by the numbers of the keys: terms with different numbers have different keys, and only where a number repeats
+// are the keys compared.
+fn all_good(zeros: bool, s: TermSet) -> bool
+    requires { ⌜ s .count ≤ 64 ⌝ }
+    ensures { λ r. ⌜ r ≡ each (goodTerm zeros) (heldBy s) ⌝ }
+{
+    let n = s.count;
+    let mut numbers = [0u64; 64];
+    let mut i: usize = 0;
+    while i < n {
+        let t = s.terms[i];
+        let p = t.items;
+        if !good_alone(zeros, t) {
+            return false;
+        }
+        let x = products::items::lettering_number(p);
+        if !is_new(&numbers, i, x) {
+            return good_terms(zeros, s);
+        }
+        numbers[i] = x;
+        i += 1;
+    }
+    true
+}
+
 // Whether zero records stand past the count.
 fn blanks_past(s: TermSet) -> bool
     requires { ⌜ s .count ≤ 64 ⌝ }
@@ -266,7 +305,7 @@ pub fn is_valid(zeros: bool, s: TermSet) -> bool
     if 64 < s.count {
         return false;
     }
-    if good_terms(zeros, s) {
+    if all_good(zeros, s) {
         return blanks_past(s);
     }
     false

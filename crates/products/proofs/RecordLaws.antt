@@ -8,11 +8,12 @@ use Prim.Native.Nat.{ℕ, zero, suc, _+_, _-_, _≤_, _<_}
 use native.Mathlib.Nat.{le-antisymm, not-suc-le-zero}
 use native.Mathlib.Decide.{ℕ-discrete, decLt}
 use native.Mathlib.Omega.{arith}
+use lib.Bits.{bitOr, or-add-and, and-le-l, and-le-r, or-zero-r}
 use lib.Dec.{ltb, leb, eqb}
 use lib.ListN.{length, List·getD-eq-default}
 use borrow.Author.Tests.{lt-ltb, le-ltb, le-leb, lt-leb, leb-true, ltb-true, eqb-true, eq-eqb, ne-eqb}
 use Rattle.letters.specs.Tests.{every}
-use Rattle.letters.proofs.TestLaws.{and-true, and-left, and-right, and-false, every-at, every-false}
+use Rattle.letters.proofs.TestLaws.{and-true, and-left, and-right, and-false, every-at, every-false, every-more}
 use Rattle.products.specs.Lists.{at}
 use Rattle.products.specs.Record.{capacity, highestSite, placeValid, inShape, valid, lookup, letterAt, reach}
 use Rattle.products.specs.declared.items.Items.{Items}
@@ -90,10 +91,71 @@ pub all-valid : (p : Items) → length (p .sites) ≡ capacity → length (p .le
 unfolding valid
 all-valid p a b c h = and-true (in-shape p a b c) h
 
--- a loop that has passed every place
-pub all-passed : (p : Items) (i : ℕ) → length (p .sites) ≡ capacity → length (p .letters) ≡ capacity → p .count ≤ capacity → i ≤ capacity → capacity ≤ i → every i (placeValid (p .count) (p .sites) (p .letters)) ≡ true → true ≡ valid p
-all-passed p i a b c l m h =
-    sym (all-valid p a b c (subst (λ (n : ℕ). every n (placeValid (p .count) (p .sites) (p .letters)) ≡ true) (le-antisymm l m) h))
+-- a loop over the places below n has passed them all
+pub all-passed : (n i : ℕ) (test : ℕ → Bool) → i ≤ n → n ≤ i → every i test ≡ true → every n test ≡ true
+all-passed n i test l m h = subst (λ (k : ℕ). every k test ≡ true) (le-antisymm l m) h
+
+-- both are zero where their bits are together
+or-none : (a b : ℕ) → bitOr a b ≡ 0 → (a ≡ 0) × (b ≡ 0)
+or-none a b e = let s = or-add-and a b in let l = and-le-l a b in let r = and-le-r a b in (omega arith, omega arith)
+
+-- a loop that has come to i and has the bits of all places past the count together
+pub record Zeros (count : ℕ) (sites letters : List ℕ) (i rest : ℕ) : Type 0 where
+  pub past : count ≤ i
+  pub within : i ≤ capacity
+  pub none : rest ≡ 0 → every i (placeValid count sites letters) ≡ true
+  pub some : 0 < rest → every capacity (placeValid count sites letters) ≡ false
+
+module _ {count : ℕ} {sites letters : List ℕ} where
+  pub zeros-none : count ≤ capacity → every count (placeValid count sites letters) ≡ true → Zeros count sites letters count 0
+  zeros-none h e = record { past = omega arith; within = h; none = λ z. e; some = λ z. absurd (omega arith) }
+
+  module _ {i rest : ℕ} (z : Zeros count sites letters i rest) (h : i < capacity) where
+    -- a site or a letter that is not zero
+    site-there : 0 < at sites i → every capacity (placeValid count sites letters) ≡ false
+    unfolding placeValid
+    site-there s = every-false capacity (placeValid count sites letters) i h (rw (le-ltb i count (z .past), lt-leb (at sites i) 0 s))
+
+    letter-there : 0 < at letters i → every capacity (placeValid count sites letters) ≡ false
+    unfolding placeValid
+    letter-there l =
+        every-false capacity (placeValid count sites letters) i h
+        (rw (le-ltb i count (z .past), le-ltb (at letters i) 1 l) (and-false (leb (at sites i) 0) false refl))
+
+    pub zeros-more : Zeros count sites letters (i + 1) (bitOr (bitOr rest (at sites i)) (at letters i))
+    zeros-more =
+        record {
+          past = omega (arith, z .past);
+          within = omega arith;
+          none = λ e.
+              let two = or-none (bitOr rest (at sites i)) (at letters i) e in
+              let one = or-none rest (at sites i) (two .0) in
+              every-more i (placeValid count sites letters) (z .none (one .0)) (place-out count sites letters i (z .past) (one .1) (two .1));
+          some = λ l. elim (decLt 0 (at letters i)) [
+            | yes q ↦ letter-there q
+            | no q ↦ elim (decLt 0 (at sites i)) [
+              | yes r ↦ site-there r
+              | no r ↦ z .some (subst (λ x. 0 < x) (zero-or (omega arith) (omega arith)) l)
+            ]
+          ];
+        }
+      where
+        zero-or : {a b : ℕ} → a ≡ 0 → b ≡ 0 → bitOr (bitOr rest a) b ≡ rest
+        zero-or {a} {b} p q = ap (bitOr (bitOr rest a)) q ∙ or-zero-r (bitOr rest a) ∙ ap (bitOr rest) p ∙ or-zero-r rest
+
+  pub zeros-done : {i rest : ℕ} → Zeros count sites letters i rest → capacity ≤ i → eqb rest 0 ≡ every capacity (placeValid count sites letters)
+  zeros-done {i} {rest} z m = go rest (z .none) (z .some)
+    where
+      go : (r : ℕ) → (r ≡ 0 → every i (placeValid count sites letters) ≡ true) → (0 < r → every capacity (placeValid count sites letters) ≡ false)
+          → eqb r 0 ≡ every capacity (placeValid count sites letters)
+      go zero none some = sym (all-passed capacity i (placeValid count sites letters) (z .within) m (none refl))
+      go (suc r) none some = ne-eqb (suc r) 0 (λ e. omega arith) ∙ sym (some (omega arith))
+
+-- where the count and the lengths are as they should be, the places decide
+pub places-decide : (p : Items) → length (p .sites) ≡ capacity → length (p .letters) ≡ capacity → p .count ≤ capacity
+    → valid p ≡ every capacity (placeValid (p .count) (p .sites) (p .letters))
+unfolding valid
+places-decide p a b c = rw (in-shape p a b c)
 
 pub record Shape (p : Items) : Type 0 where
   pub sites-long : length (p .sites) ≡ capacity

@@ -1,15 +1,12 @@
 -- The pass over any record's places fits 64 bits; that of a valid record ends at the entry of its letters.
 -- Assumes nothing.
 use mathlib.Core.Path.{_≡_, refl, sym, ap, ap₂, _∙_}
-use mathlib.Core.Bool.{true, cond}
-use mathlib.Core.Logic.{⊎-elim}
-use Prim.Native.Nat.{ℕ, zero, suc, _+_, _-_, _*_, _/_, _%_, _^_, _≤_, _<_}
-use native.Mathlib.Nat.{eq-or-lt-of-le, mod-lt, mod-eq-of-lt, pow-suc, zero-add, div-add-mod', div-div-eq-div-mul, div-eq-of-lt, div-lt-iff-lt-mul, add-mul-div-right}
-use native.Mathlib.Decide.{decLt}
+use mathlib.Core.Bool.{true}
+use Prim.Native.Nat.{ℕ, zero, suc, _+_, _-_, _*_, _/_, _%_, _^_, _≤_, _<_, min}
+use native.Mathlib.Nat.{min-eq-left, mod-lt, mod-eq-of-lt, pow-suc, zero-add, div-add-mod', div-div-eq-div-mul, div-eq-of-lt, div-lt-iff-lt-mul, add-mul-div-right}
 use native.Mathlib.Omega.{arith}
 use lib.Arith.{digits-lt}
 use lib.Pow.{pow-add, pow-pos}
-use borrow.Author.Tests.{lt-ltb, le-ltb}
 use Rattle.letters.specs.Sums.{total}
 use Rattle.letters.specs.Matrices.{Letters, lettersOf, bit}
 use Rattle.letters.specs.Single.{cell}
@@ -17,7 +14,7 @@ use Rattle.letters.specs.Rows.{columnOf, rowPower}
 use Rattle.letters.specs.declared.Kind.{Kind}
 use Rattle.letters.proofs.TableLaws.{closed}
 use Rattle.letters.proofs.BitLaws.{bit-lt, binary-lt, binary-bits, low-suc}
-use Rattle.products.specs.Lists.{at, smaller}
+use Rattle.products.specs.Lists.{at}
 use Rattle.products.specs.Record.{capacity, valid, letterAt, reach}
 use Rattle.products.specs.Walks.{turnAt, walk, walkOf}
 use Rattle.products.specs.declared.items.Items.{Items}
@@ -65,7 +62,7 @@ bit-fits s c y hs hc hy =
 -- its power is below 4
 pub walk-power-lt : (M : Letters) (p : Items) (r : ℕ) → walkOf M p r .1 < 4
 unfolding walkOf walk
-walk-power-lt M p r = go (smaller (p .count) capacity)
+walk-power-lt M p r = go (min (p .count) capacity)
   where
     go : (i : ℕ) → walk M p r i .1 < 4
     go zero = omega arith
@@ -124,7 +121,7 @@ walking-more {kind} {p} {r} {i} {column} {power} {place} {here} w u e =
     next i = omega arith
 
 -- all places
-pub walking-done : {kind : Kind} {p : Items} {r i column power n : ℕ} → Walking kind p r i column power → i ≤ n → n ≡ smaller (p .count) capacity → n ≤ i
+pub walking-done : {kind : Kind} {p : Items} {r i column power n : ℕ} → Walking kind p r i column power → i ≤ n → n ≡ min (p .count) capacity → n ≤ i
     → _≡_ {A = ℕ × ℕ} (column, power) (walkOf (lettersOf kind) p r)
 unfolding walkOf
 walking-done {kind} {p} {r} {i} w a e b = w .reached ∙ ap (walk (lettersOf kind) p r) (go _ _ _ a b e)
@@ -132,18 +129,7 @@ walking-done {kind} {p} {r} {i} w a e b = w .reached ∙ ap (walk (lettersOf kin
     go : (i n m : ℕ) → i ≤ n → n ≤ i → n ≡ m → i ≡ m
     go i n m a b e = omega arith
 
--- a place below the smaller of count and capacity is in the arrays
-pub place-there : {n i : ℕ} (count : ℕ) → n ≡ smaller count capacity → i < n → i < capacity
-place-there count e l = elim (decLt count capacity) [
-  | yes q ↦ omega (arith, e ∙ ap (λ b. cond b count capacity) (lt-ltb count capacity q))
-  | no q ↦ omega (arith, e ∙ ap (λ b. cond b count capacity) (le-ltb count capacity (omega arith)))
-]
-
 -- ---- a valid record
-
-smaller-first : (a b : ℕ) → a ≤ b → smaller a b ≡ a
-smaller-first a b l =
-    ⊎-elim (λ e. rw (e, le-ltb b b (omega arith))) (λ q. rw (lt-ltb a b q)) (eq-or-lt-of-le l)
 
 module _ (kind : Kind) (p : Items) (v : valid p ≡ true) (r : ℕ) where
   -- bits from the bound on are still the row's
@@ -190,5 +176,5 @@ module _ (kind : Kind) (p : Items) (v : valid p ≡ true) (r : ℕ) where
   unfolding walkOf
   walk-inside small n in-n row-n =
       let most : p .count ≤ capacity = valid-shape p v .count-most in
-      let all : smaller (p .count) capacity ≡ p .count = smaller-first (p .count) capacity most in
+      let all : min (p .count) capacity ≡ p .count = min-eq-left most in
       rw all (turned-done v (walk-turned small (p .count) (omega arith)) (omega arith) n in-n row-n)

@@ -1,10 +1,10 @@
 -- A pass over the places of any record: it turns the bits of a row one after the other, and adds up the powers of i.
 -- Of a record that number 0 lets pass the result is the product's entry (WalkLaws: `walk-inside`); of any other it means nothing.
 -- Callers who know their records to be valid need not judge them again.
-use Prim.Native.Nat.{ℕ, zero, suc, _+_, _-_, _*_, _/_, _%_, _^_}
+use Prim.Native.Nat.{ℕ, zero, suc, _+_, _-_, _*_, _/_, _%_, _^_, min}
 use Rattle.letters.specs.Matrices.{Letters, bit}
 use Rattle.letters.specs.Single.{cell}
-use Rattle.products.specs.Lists.{at, smaller}
+use Rattle.products.specs.Lists.{at}
 use Rattle.products.specs.Record.{capacity}
 use Rattle.products.specs.declared.items.Items.{Items}
 
@@ -19,4 +19,4 @@ walk M p r (suc i) = turnAt M (at (p .sites) i % 64) (at (p .letters) i % 4) (wa
 
 -- after all places that the record has
 unfoldable pub walkOf : Letters → Items → ℕ → ℕ × ℕ
-walkOf M p r = walk M p r (smaller (p .count) capacity)
+walkOf M p r = walk M p r (min (p .count) capacity)

@@ -3,7 +3,6 @@ ghost use mathlib.Core.Path.{_≡_};
 ghost use Prim.Native.Nat.{ℕ, _+_, _^_, _<_};
 ghost use Rattle.letters.specs.Matrices.{lettersOf};
 ghost use Rattle.letters.specs.Single.{cell};
-ghost use Rattle.products.specs.Lists.{smaller};
 ghost use Rattle.products.specs.Record.{reach};
 ghost use Rattle.products.specs.Walks.{walkOf};
 ghost use Rattle.products.specs.Answers.{saidRow, rowAnswer};
@@ -12,6 +11,7 @@ use crate::items::Items;
 use crate::items::ItemsRow;
 use crate::items::Site;
 use crate::items::is_valid;
+use crate::items::lettered;
 use letters::Kind;
 use refusal::Refusal;
 
@@ -64,13 +64,6 @@ pub fn reach_of(p: Items) -> usize
     after(p.sites[count - 1])
 }
 
-// How many places a record with such a count has.
-fn places_of(count: usize) -> usize
-    ensures { λ r. ⌜ r ≡ smaller count 31 ⌝ }
-{
-    if count < CAPACITY { count } else { CAPACITY }
-}
-
 // Where a pass over a record's places ends: a column and a power of i.
 pub struct WalkEnd {
     pub column: u64,
@@ -81,7 +74,7 @@ pub struct WalkEnd {
 pub fn walked(kind: Kind, p: Items, row: u64) -> WalkEnd
     ensures { λ r. ⌜ _≡_ {A = ℕ × ℕ} (r .column, r .power) (walkOf (lettersOf kind) p row) ⌝ }
 {
-    let count = places_of(p.count);
+    let count = lettered(p.count);
     let mut column = row;
     let mut power: u8 = 0;
     let mut i: usize = 0;

@@ -222,6 +222,12 @@ has-fewer p q (x ∷ l) h e =
     let f : q x ≡ false = by-test (q x) (λ t. absurd (true≢false (sym (h x t) ∙ n .0))) (λ t. t) in
     rw (f, has-fewer p q l h (n .1))
 
+-- one more at the end, without the key
+pub has-last : {A : Type 0} (p : A → Bool) (a : A) (l : List A) → has p l ≡ false → p a ≡ false → has p (l ++ a ∷ []) ≡ false
+unfolding has
+has-last p a [] e h = rw h
+has-last p a (x ∷ l) e h = let n = neither (p x) (has p l) e in rw (n .0, has-last p a l (n .1) h)
+
 module _ {A : Type 0} (test : A → Bool) where
   struck-le : (b : Bool) (x : A) (s l : List A) → length s ≤ length l → length (cond b l (x ∷ s)) ≤ suc (length l)
   struck-le true x s l h = omega arith

@@ -14,3 +14,4 @@ pub mod RunLaws
 pub mod AnswerLaws
 pub mod ChainLaws
 pub mod ValidSetLaws
+pub mod NumberedLaws

@@ -1,21 +1,26 @@
 -- `noise_set::is_blank`: each return by the tests that led there.
 -- Assumes nothing.
-use mathlib.Core.Path.{_≡_, sym, _∙_}
+use mathlib.Core.Path.{sym, _∙_}
 use borrow.Author.Needs.{needs}
-use Rattle.products.specs.Answers.{emptyProduct}
-use Rattle.terms.specs.Setting.{keyed}
-use Rattle.noise.specs.Pairs.{pairTerms, isBlank}
+use borrow.Author.Tests.{not-true, not-false}
+use Rattle.noise.specs.Pairs.{isBlank}
 use Rattle.noise.proofs.noise_set.is_blank.Statement.{statement}
 use Rattle.noise.proofs.noise_set.is_blank.Tie as tie
 
-empty-requires : tie.Need-empty-requires
-empty-requires c κs = search needs
+is-empty-requires : tie.Need-is-empty-requires
+is-empty-requires c κs = search needs
 
-empty-requires-2 : tie.Need-empty-requires-2
-empty-requires-2 c κs = search needs
+returns : tie.Need-returns
+unfolding isBlank
+returns c = rw (sym (c .before .is-empty .ensures) ∙ not-true _ (c .if1 .taken))
 
-has-key-requires : tie.Need-has-key-requires
-has-key-requires c κs = search needs
+is-empty-requires-2 : tie.Need-is-empty-requires-2
+is-empty-requires-2 c κs = search needs
+
+returns-2 : tie.Need-returns-2
+unfolding isBlank
+returns-2 c =
+    rw (sym (c .before .before .before .is-empty .ensures) ∙ not-false _ (c .before .before .if1 .left), sym (c .before .is-empty2 .ensures) ∙ not-true _ (c .if2 .taken))
 
 is-plus-zero-requires : tie.Need-is-plus-zero-requires
 is-plus-zero-requires c κs = search needs
@@ -23,39 +28,38 @@ is-plus-zero-requires c κs = search needs
 is-plus-zero-requires-2 : tie.Need-is-plus-zero-requires-2
 is-plus-zero-requires-2 c κs = search needs
 
--- what the comparison says, in the definition's words
-asked : (c : tie.After-has-key) → keyed pairTerms (emptyProduct, emptyProduct) (c .before .before .before .before .args .t) ≡ c .has-key .result
-asked c =
-    let t = c .before .before .before .before .args .t in
-    (λ j. keyed pairTerms (sym (c .before .before .empty .ensures) j, sym (c .before .empty2 .ensures) j) t) ∙ sym (c .has-key .ensures)
-
-returns : tie.Need-returns
-unfolding isBlank
-returns c =
-    let s = asked (c .before .before .before .before) ∙ c .before .before .before .if1 .taken in
-    rw (s, ← c .before .before .is-plus-zero .ensures, c .before .if2 .taken, c .is-plus-zero2 .ensures)
-
-returns-2 : tie.Need-returns-2
-unfolding isBlank
-returns-2 c =
-    let s = asked (c .before .before .before) ∙ c .before .before .if1 .taken in
-    rw (s, ← c .before .is-plus-zero .ensures, c .if2 .left)
-
 returns-3 : tie.Need-returns-3
 unfolding isBlank
 returns-3 c =
-    let s = asked (c .before) ∙ c .if1 .left in
-    rw s
+    let right = c .before .before .before in
+    rw (
+      sym (right .before .before .before .is-empty .ensures) ∙ not-false _ (right .before .before .if1 .left),
+      sym (right .before .is-empty2 .ensures) ∙ not-false _ (right .if2 .left),
+      ← c .before .before .is-plus-zero .ensures,
+      c .before .if3 .taken,
+      c .is-plus-zero2 .ensures,
+    )
+
+returns-4 : tie.Need-returns-4
+unfolding isBlank
+returns-4 c =
+    let right = c .before .before in
+    rw (
+      sym (right .before .before .before .is-empty .ensures) ∙ not-false _ (right .before .before .if1 .left),
+      sym (right .before .is-empty2 .ensures) ∙ not-false _ (right .if2 .left),
+      ← c .before .is-plus-zero .ensures,
+      c .if3 .left,
+    )
 
 pub is-blank-spec : {M : Type 1} → statement M
 is-blank-spec =
     tie.close
     (tie.spec
-    empty-requires
-    empty-requires-2
-    has-key-requires
+    is-empty-requires
+    returns
+    is-empty-requires-2
+    returns-2
     is-plus-zero-requires
     is-plus-zero-requires-2
-    returns
-    returns-2
-    returns-3)
+    returns-3
+    returns-4)

@@ -17,8 +17,8 @@ returns c =
     let b = c .before .before in
     rw (valid-is validNoiseSets (b .args .s) (whole b), lt-leb _ _ (c .if1 .taken))
 
-good-terms-requires : tie.Need-good-terms-requires
-good-terms-requires c κs = search needs
+all-good-requires : tie.Need-all-good-requires
+all-good-requires c κs = search needs
 
 blanks-past-requires : tie.Need-blanks-past-requires
 blanks-past-requires c κs = search needs
@@ -26,15 +26,15 @@ blanks-past-requires c κs = search needs
 returns-2 : tie.Need-returns-2
 returns-2 c =
     let b = c .before .before .before .before .before in
-    let good = sym (c .before .before .good-terms .ensures) ∙ c .before .if2 .taken in
+    let good = sym (c .before .before .all-good .ensures) ∙ c .before .if2 .taken in
     rw (valid-is validNoiseSets (b .args .s) (whole b), le-leb _ _ (c .before .before .before .if1 .left), good, c .blanks-past .ensures)
 
 returns-3 : tie.Need-returns-3
 returns-3 c =
     let b = c .before .before .before .before in
-    let good = sym (c .before .good-terms .ensures) ∙ c .if2 .left in
+    let good = sym (c .before .all-good .ensures) ∙ c .if2 .left in
     rw (valid-is validNoiseSets (b .args .s) (whole b), le-leb _ _ (c .before .before .if1 .left), good)
 
 pub is-valid-spec : {M : Type 1} → statement M
 is-valid-spec =
-    tie.close (tie.spec returns good-terms-requires blanks-past-requires returns-2 returns-3)
+    tie.close (tie.spec returns all-good-requires blanks-past-requires returns-2 returns-3)

@@ -1,18 +1,12 @@
 -- `term_set::is_blank`: each return by the tests that led there.
 -- Assumes nothing.
-use mathlib.Core.Path.{_≡_, sym, ap, _∙_}
 use borrow.Author.Needs.{needs}
-use Rattle.products.specs.Record.{sameItems}
-use Rattle.products.specs.Answers.{emptyProduct}
 use Rattle.operators.specs.Complexes.{isBlank}
 use Rattle.operators.proofs.term_set.is_blank.Statement.{statement}
 use Rattle.operators.proofs.term_set.is_blank.Tie as tie
 
-empty-requires : tie.Need-empty-requires
-empty-requires c κs = search needs
-
-same-requires : tie.Need-same-requires
-same-requires c κs = search needs
+is-empty-requires : tie.Need-is-empty-requires
+is-empty-requires c κs = search needs
 
 is-plus-zero-requires : tie.Need-is-plus-zero-requires
 is-plus-zero-requires c κs = search needs
@@ -20,34 +14,25 @@ is-plus-zero-requires c κs = search needs
 is-plus-zero-requires-2 : tie.Need-is-plus-zero-requires-2
 is-plus-zero-requires-2 c κs = search needs
 
--- what the comparison says, in the definition's words
-asked : (c : tie.After-same) → sameItems (c .before .before .before .before .args .t .items) emptyProduct ≡ c .same .result
-asked c = ap (sameItems (c .before .before .before .before .args .t .items)) (sym (c .before .empty .ensures)) ∙ sym (c .same .ensures)
-
 returns : tie.Need-returns
 unfolding isBlank
 returns c =
-    let s = asked (c .before .before .before .before) ∙ c .before .before .before .if1 .taken in
-    rw (s, ← c .before .before .is-plus-zero .ensures, c .before .if2 .taken, c .is-plus-zero2 .ensures)
+    rw (← c .before .before .before .before .is-empty .ensures, c .before .before .before .if1 .taken, ← c .before .before .is-plus-zero .ensures, c .before .if2 .taken, c .is-plus-zero2 .ensures)
 
 returns-2 : tie.Need-returns-2
 unfolding isBlank
 returns-2 c =
-    let s = asked (c .before .before .before) ∙ c .before .before .if1 .taken in
-    rw (s, ← c .before .is-plus-zero .ensures, c .if2 .left)
+    rw (← c .before .before .before .is-empty .ensures, c .before .before .if1 .taken, ← c .before .is-plus-zero .ensures, c .if2 .left)
 
 returns-3 : tie.Need-returns-3
 unfolding isBlank
-returns-3 c =
-    let s = asked (c .before) ∙ c .if1 .left in
-    rw s
+returns-3 c = rw (← c .before .is-empty .ensures, c .if1 .left)
 
 pub is-blank-spec : {M : Type 1} → statement M
 is-blank-spec =
     tie.close
     (tie.spec
-    empty-requires
-    same-requires
+    is-empty-requires
     is-plus-zero-requires
     is-plus-zero-requires-2
     returns

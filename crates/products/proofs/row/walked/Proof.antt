@@ -5,7 +5,7 @@ use native.Mathlib.Nat.{mod-lt}
 use native.Mathlib.Omega.{arith}
 use borrow.Author.Needs.{needs}
 use Rattle.products.proofs.RowLaws.{unit-positive}
-use Rattle.products.proofs.WalkLaws.{Walking, walking-none, walking-more, walking-done, place-there}
+use Rattle.products.proofs.WalkLaws.{Walking, walking-none, walking-more, walking-done}
 use Rattle.products.proofs.row.walked.Statement.{statement}
 use Rattle.products.proofs.row.walked.Tie as tie
 
@@ -15,14 +15,14 @@ Inv-loop kind row p count column₀ power₀ i₀ column power i = Walking kind 
 abbrev μ-loop : tie.MeasureT-loop
 μ-loop kind row p count column₀ power₀ i₀ column power i = count - i
 
-places-of-requires : tie.Need-places-of-requires Inv-loop μ-loop
-places-of-requires c κs = search needs
+lettered-requires : tie.Need-lettered-requires Inv-loop μ-loop
+lettered-requires c κs = search needs
 
 loop-holds : tie.Need-loop-holds Inv-loop μ-loop
 loop-holds c = (walking-none _ _ _ (c .before .fits .row .fits), omega arith)
 
 element-copy-out-place-of : tie.Need-element-copy-out-place-of Inv-loop μ-loop
-element-copy-out-place-of c = place-there (c .before .before .before .args .t2 .count) (c .before .before .places-of .ensures) (c .loop-test .taken)
+element-copy-out-place-of c = omega (arith, c .before .before .lettered .ensures)
 
 cast-place-of : tie.Need-cast-place-of Inv-loop μ-loop
 cast-place-of c = search needs
@@ -34,7 +34,7 @@ div-bit : tie.Need-div-bit Inv-loop μ-loop
 div-bit c = unit-positive _ (c .place-of .ensures)
 
 element-copy-out-letter-cell : tie.Need-element-copy-out-letter-cell Inv-loop μ-loop
-element-copy-out-letter-cell c = place-there (c .before .before .before .before .before .args .t2 .count) (c .before .before .before .before .places-of .ensures) (c .before .before .loop-test .taken)
+element-copy-out-letter-cell c = omega (arith, c .before .before .before .before .lettered .ensures)
 
 letter-cell-requires : tie.Need-letter-cell-requires Inv-loop μ-loop
 letter-cell-requires c κs = (mod-lt _ (omega arith), mod-lt _ (omega arith))
@@ -79,7 +79,7 @@ loop-again c =
     (walking-more (l .before .loop .inv .0) (c .before .before .place-of .ensures) (c .letter-cell .ensures) .next, omega arith)
 
 returns : tie.Need-returns Inv-loop μ-loop
-returns c = walking-done (c .before .loop .inv .0) (c .before .loop .inv .1) (c .before .before .places-of .ensures) (c .loop-test .left)
+returns c = walking-done (c .before .loop .inv .0) (c .before .loop .inv .1) (c .before .before .lettered .ensures) (c .loop-test .left)
 
 pub walked-spec : {M : Type 1} → statement M
 walked-spec =
@@ -87,7 +87,7 @@ walked-spec =
     (tie.spec
     Inv-loop
     μ-loop
-    places-of-requires
+    lettered-requires
     loop-holds
     element-copy-out-place-of
     cast-place-of
