@@ -4,3 +4,4 @@ pub mod full;
 pub mod noise_set;
 pub mod pauli_noise_operator;
 pub mod remap;
+mod valid_pairs;

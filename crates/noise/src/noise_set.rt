@@ -1,18 +1,17 @@
 // A set of noise terms, pairs of decoherence products with a complex coefficient: the first `count` places hold terms, zero records stand past them.
 ghost use mathlib.Core.Path.{_≡_};
-ghost use mathlib.Core.Bool.{not, _&&_, cond};
+ghost use mathlib.Core.Bool.{cond};
 ghost use Prim.Native.Nat.{_+_, _<_, _≤_};
-ghost use lib.Dec.{eqb};
-ghost use lib.ListN.{getD, drop};
+ghost use lib.ListN.{drop};
 ghost use mathlib.Core.List.{[], map};
 ghost use Rattle.refusal.specs.Refusals.{gives};
-ghost use Rattle.complex.specs.Complex.{isZero, inRange};
-ghost use Rattle.letters.specs.Tests.{every};
-ghost use Rattle.terms.specs.Keyed.{firstAt, held, omitted, each};
+ghost use Rattle.terms.specs.Keyed.{firstAt, held, omitted};
 ghost use Rattle.terms.specs.Setting.{keyed, coefficientAt, write, hasRoom};
 ghost use Rattle.operators.specs.Answers.{saidGet, saidSet};
-ghost use Rattle.noise.specs.Pairs.{pairTerms, blank, heldBy, filled, goodKey, goodCoefficient, goodTerm, isBlank, validSet};
+ghost use Rattle.noise.specs.Pairs.{pairTerms, blank, heldBy, filled, validSet};
 ghost use Rattle.noise.specs.Answers.{validKey, emptySide, toldSet, told, getPair, setPair, addPair};
+use crate::valid_pairs::all_good;
+use crate::valid_pairs::blanks_past;
 use complex::Complex;
 use operators::term_set::GetAnswer;
 use operators::term_set::SetAnswer;
@@ -183,37 +182,8 @@ fn was(s: NoiseSet, left: Items, right: Items) -> SetAnswer
     SetAnswer::WasFree
 }
 
-// Whether a record is the zero record.
-fn is_blank(t: NoiseTerm) -> bool
-    ensures { λ r. ⌜ r ≡ isBlank t ⌝ }
-{
-    let p = t.left;
-    let q = t.right;
-    let c = t.coefficient;
-    if !products::items::is_empty(p) {
-        return false;
-    }
-    if !products::items::is_empty(q) {
-        return false;
-    }
-    if complex::is_plus_zero(c.re) {
-        return complex::is_plus_zero(c.im);
-    }
-    false
-}
-
-// Whether a coefficient is one that a valid set holds.
-fn good_coefficient(c: Complex) -> bool
-    ensures { λ r. ⌜ r ≡ (inRange c && not (isZero c)) ⌝ }
-{
-    if !c.in_range() {
-        return false;
-    }
-    !c.is_zero()
-}
-
 // Whether both products of a key are valid.
-fn valid_key(left: Items, right: Items) -> bool
+pub(crate) fn valid_key(left: Items, right: Items) -> bool
     ensures { λ r. ⌜ r ≡ validKey (left, right) ⌝ }
 {
     if products::items::is_valid(left) {
@@ -230,121 +200,6 @@ pub(crate) fn empty_side(left: Items, right: Items) -> bool
         return true;
     }
     right.count == 0
-}
-
-// Whether the term at a place is as a valid set holds it.
-fn good_term(s: NoiseSet, i: usize) -> bool
-    requires { ⌜ (s .count ≤ 64) × (i < s .count) ⌝ }
-    ensures { λ r. ⌜ r ≡ goodTerm (getD (heldBy s) i blank) (drop (i + 1) (heldBy s)) ⌝ }
-{
-    let t = s.terms[i];
-    let p = t.left;
-    let q = t.right;
-    let c = t.coefficient;
-    if !valid_key(p, q) {
-        return false;
-    }
-    if empty_side(p, q) {
-        return false;
-    }
-    if !good_coefficient(c) {
-        return false;
-    }
-    find_from(s, i + 1, p, q) == s.count
-}
-
-// Whether every held term is.
-fn good_terms(s: NoiseSet) -> bool
-    requires { ⌜ s .count ≤ 64 ⌝ }
-    ensures { λ r. ⌜ r ≡ each goodTerm (heldBy s) ⌝ }
-{
-    let n = s.count;
-    let mut i = 0;
-    while i < n {
-        if !good_term(s, i) {
-            return false;
-        }
-        i += 1;
-    }
-    true
-}
-
-// Whether a term is as a valid set holds it, but for the keys of the others.
-fn good_alone(t: NoiseTerm) -> bool
-    ensures { λ r. ⌜ r ≡ (goodKey (t .left, t .right) && goodCoefficient (t .coefficient)) ⌝ }
-{
-    let p = t.left;
-    let q = t.right;
-    let c = t.coefficient;
-    if !valid_key(p, q) {
-        return false;
-    }
-    if empty_side(p, q) {
-        return false;
-    }
-    good_coefficient(c)
-}
-
-// Whether none of the first n places of both arrays has two numbers.
-fn is_new(lefts: &[u64; 64], rights: &[u64; 64], n: usize, left: u64, right: u64) -> bool
-    requires { ⌜ n ≤ 64 ⌝ }
-    ensures { λ r. ⌜ r ≡ every n (λ j. not (eqb (getD (now (lefts .entry)) j 0) left && eqb (getD (now (rights .entry)) j 0) right)) ⌝ }
-{
-    let mut j: usize = 0;
-    while j < n {
-        if lefts[j] == left {
-            if rights[j] == right {
-                return false;
-            }
-        }
-        j += 1;
-    }
-    true
-}
-
-// The same answer by the numbers of the keys: terms with different numbers have different keys, and only where two numbers repeat
-// are the keys compared.
-fn all_good(s: NoiseSet) -> bool
-    requires { ⌜ s .count ≤ 64 ⌝ }
-    ensures { λ r. ⌜ r ≡ each goodTerm (heldBy s) ⌝ }
-{
-    let n = s.count;
-    let mut lefts = [0u64; 64];
-    let mut rights = [0u64; 64];
-    let mut i: usize = 0;
-    while i < n {
-        let t = s.terms[i];
-        let p = t.left;
-        let q = t.right;
-        if !good_alone(t) {
-            return false;
-        }
-        let left = products::items::lettering_number(p);
-        let right = products::items::lettering_number(q);
-        if !is_new(&lefts, &rights, i, left, right) {
-            return good_terms(s);
-        }
-        lefts[i] = left;
-        rights[i] = right;
-        i += 1;
-    }
-    true
-}
-
-// Whether zero records stand past the count.
-fn blanks_past(s: NoiseSet) -> bool
-    requires { ⌜ s .count ≤ 64 ⌝ }
-    ensures { λ r. ⌜ r ≡ each (λ t ts. isBlank t) (drop (s .count) (s .terms)) ⌝ }
-{
-    let mut i = s.count;
-    while i < 64 {
-        let t = s.terms[i];
-        if !is_blank(t) {
-            return false;
-        }
-        i += 1;
-    }
-    true
 }
 
 // Whether number 0 lets the set pass.

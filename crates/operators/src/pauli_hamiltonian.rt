@@ -1,25 +1,23 @@
 // Hamiltonians: sets of Pauli products with real coefficients; the first `count` places hold terms, zero records stand past them.
 ghost use mathlib.Core.Path.{_≡_};
-ghost use mathlib.Core.Bool.{not, _&&_, cond};
+ghost use mathlib.Core.Bool.{cond};
 ghost use Prim.Native.Nat.{_+_, _<_, _≤_};
-ghost use lib.Ieee.{eq};
-ghost use lib.ListN.{getD, drop};
+ghost use lib.ListN.{drop};
 ghost use mathlib.Core.List.{[], map};
 ghost use Rattle.refusal.specs.Refusals.{gives};
-ghost use Rattle.complex.specs.Complex.{plusZero, partInRange};
-ghost use Rattle.products.specs.Record.{valid};
-ghost use Rattle.terms.specs.Keyed.{firstAt, held, omitted, each};
+ghost use Rattle.terms.specs.Keyed.{firstAt, held, omitted};
 ghost use Rattle.terms.specs.Setting.{keyed, coefficientAt, write, hasRoom};
 ghost use Rattle.operators.specs.Answers.{saidGet, saidSet};
 ghost use Rattle.operators.specs.Complexes as complexes;
-ghost use Rattle.operators.specs.Reals.{realTerms, complexOf, complexTerm, blank, heldBy, filled, goodCoefficient, goodTerm, isBlank, validSet};
+ghost use Rattle.operators.specs.Reals.{realTerms, complexOf, complexTerm, blank, heldBy, filled, validSet};
 ghost use Rattle.operators.specs.RealAnswers.{toldSet, told, getReal, setReal, addReal, conjugateReal};
-use crate::numbers::is_new;
 use crate::term_set::GetAnswer;
 use crate::term_set::SetAnswer;
 use crate::term_set::Term;
 use crate::term_set::TermSet;
 use crate::term_set::held_count;
+use crate::valid_reals::all_good;
+use crate::valid_reals::blanks_past;
 use complex::Complex;
 use products::items::Items;
 use products::pauli_product::PauliProduct;
@@ -161,111 +159,6 @@ fn was(s: PauliHamiltonian, key: Items) -> SetAnswer
         return SetAnswer::Replaced(t.coefficient, 0.0);
     }
     SetAnswer::WasFree
-}
-
-// Whether a record is the zero record.
-fn is_blank(t: RealTerm) -> bool
-    ensures { λ r. ⌜ r ≡ isBlank t ⌝ }
-{
-    let p = t.items;
-    if products::items::is_empty(p) {
-        return complex::is_plus_zero(t.coefficient);
-    }
-    false
-}
-
-// Whether a coefficient is one that a Hamiltonian holds.
-fn good_coefficient(x: f64) -> bool
-    ensures { λ r. ⌜ r ≡ (partInRange x && not (eq x plusZero)) ⌝ }
-{
-    if !complex::part_in_range(x) {
-        return false;
-    }
-    !(x == 0.0)
-}
-
-// Whether the term at a place is as a Hamiltonian holds it.
-fn good_term(s: PauliHamiltonian, i: usize) -> bool
-    requires { ⌜ (s .count ≤ 64) × (i < s .count) ⌝ }
-    ensures { λ r. ⌜ r ≡ goodTerm (getD (heldBy s) i blank) (drop (i + 1) (heldBy s)) ⌝ }
-{
-    let t = s.terms[i];
-    let p = t.items;
-    if !products::items::is_valid(p) {
-        return false;
-    }
-    if !good_coefficient(t.coefficient) {
-        return false;
-    }
-    find_from(s, i + 1, p) == s.count
-}
-
-// Whether every held term is.
-fn good_terms(s: PauliHamiltonian) -> bool
-    requires { ⌜ s .count ≤ 64 ⌝ }
-    ensures { λ r. ⌜ r ≡ each goodTerm (heldBy s) ⌝ }
-{
-    let n = s.count;
-    let mut i = 0;
-    while i < n {
-        if !good_term(s, i) {
-            return false;
-        }
-        i += 1;
-    }
-    true
-}
-
-// Whether a term is as a Hamiltonian holds it, but for the keys of the others.
-fn good_alone(t: RealTerm) -> bool
-    ensures { λ r. ⌜ r ≡ (valid (t .items) && goodCoefficient (t .coefficient)) ⌝ }
-{
-    let p = t.items;
-    if products::items::is_valid(p) {
-        return good_coefficient(t.coefficient);
-    }
-    false
-}
-
-// The same answer by the numbers of the keys: terms with different numbers have different keys, and only where a number repeats
-// are the keys compared.
-fn all_good(s: PauliHamiltonian) -> bool
-    requires { ⌜ s .count ≤ 64 ⌝ }
-    ensures { λ r. ⌜ r ≡ each goodTerm (heldBy s) ⌝ }
-{
-    let n = s.count;
-    let mut numbers = [0u64; 64];
-    let mut i: usize = 0;
-    while i < n {
-        let t = s.terms[i];
-        let p = t.items;
-        if !good_alone(t) {
-            return false;
-        }
-        let x = products::items::lettering_number(p);
-        if !is_new(&numbers, i, x) {
-            return good_terms(s);
-        }
-        numbers[i] = x;
-        i += 1;
-    }
-    true
-}
-
-// Whether zero records stand past the count.
-fn blanks_past(s: PauliHamiltonian) -> bool
-    requires { ⌜ s .count ≤ 64 ⌝ }
-    ensures { λ r. ⌜ r ≡ each (λ t ts. isBlank t) (drop (s .count) (s .terms)) ⌝ }
-{
-    let mut i = s.count;
-    while i < 64 {
-        let t = s.terms[i];
-        if !is_blank(t) {
-            return false;
-        }
-        i += 1;
-    }
-    true
 }
 
 // The terms with complex coefficients, each second part +0.

@@ -1,17 +1,16 @@
 // A set of terms with complex coefficients: the first `count` places hold terms, zero records stand past them.
 ghost use mathlib.Core.Path.{_≡_};
-ghost use mathlib.Core.Bool.{Bool, true, not, _&&_, _||_, cond};
-ghost use Prim.Native.Nat.{_+_, _-_, _<_, _≤_, min};
-ghost use lib.ListN.{getD, drop};
+ghost use mathlib.Core.Bool.{cond};
+ghost use Prim.Native.Nat.{_+_, _<_, _≤_, min};
+ghost use lib.ListN.{drop};
 ghost use mathlib.Core.List.{[], map};
 ghost use Rattle.refusal.specs.Refusals.{gives};
-ghost use Rattle.complex.specs.Complex.{isZero, inRange};
-ghost use Rattle.products.specs.Record.{valid};
-ghost use Rattle.terms.specs.Keyed.{firstAt, held, omitted, each};
+ghost use Rattle.terms.specs.Keyed.{firstAt, held, omitted};
 ghost use Rattle.terms.specs.Setting.{keyed, coefficientAt, write, hasRoom};
-ghost use Rattle.operators.specs.Complexes.{complexTerms, blank, heldBy, filled, goodCoefficient, goodTerm, isBlank, validSet};
+ghost use Rattle.operators.specs.Complexes.{complexTerms, blank, heldBy, filled, validSet};
 ghost use Rattle.operators.specs.Answers.{saidGet, saidSet, toldSet, told, getTerm, setTerm, addTerm};
-use crate::numbers::is_new;
+use crate::valid_terms::all_good;
+use crate::valid_terms::blanks_past;
 use complex::Complex;
 use products::items::Items;
 use refusal::Outcome;
@@ -183,119 +182,6 @@ fn was(s: TermSet, key: Items) -> SetAnswer
         return SetAnswer::Replaced(c.re, c.im);
     }
     SetAnswer::WasFree
-}
-
-// Whether a record is the zero record.
-fn is_blank(t: Term) -> bool
-    ensures { λ r. ⌜ r ≡ isBlank t ⌝ }
-{
-    let p = t.items;
-    let c = t.coefficient;
-    if products::items::is_empty(p) {
-        if complex::is_plus_zero(c.re) {
-            return complex::is_plus_zero(c.im);
-        }
-    }
-    false
-}
-
-// Whether a coefficient is one that a valid set holds.
-fn good_coefficient(zeros: bool, c: Complex) -> bool
-    ensures { λ r. ⌜ r ≡ (inRange c && (zeros || not (isZero c))) ⌝ }
-{
-    if !c.in_range() {
-        return false;
-    }
-    if zeros {
-        return true;
-    }
-    !c.is_zero()
-}
-
-// Whether the term at a place is as a valid set holds it.
-fn good_term(zeros: bool, s: TermSet, i: usize) -> bool
-    requires { ⌜ (s .count ≤ 64) × (i < s .count) ⌝ }
-    ensures { λ r. ⌜ r ≡ goodTerm zeros (getD (heldBy s) i blank) (drop (i + 1) (heldBy s)) ⌝ }
-{
-    let t = s.terms[i];
-    let p = t.items;
-    let c = t.coefficient;
-    if !products::items::is_valid(p) {
-        return false;
-    }
-    if !good_coefficient(zeros, c) {
-        return false;
-    }
-    find_from(s, i + 1, p) == s.count
-}
-
-// Whether every held term is.
-fn good_terms(zeros: bool, s: TermSet) -> bool
-    requires { ⌜ s .count ≤ 64 ⌝ }
-    ensures { λ r. ⌜ r ≡ each (goodTerm zeros) (heldBy s) ⌝ }
-{
-    let n = s.count;
-    let mut i = 0;
-    while i < n {
-        if !good_term(zeros, s, i) {
-            return false;
-        }
-        i += 1;
-    }
-    true
-}
-
-// Whether a term is as a valid set holds it, but for the keys of the others.
-fn good_alone(zeros: bool, t: Term) -> bool
-    ensures { λ r. ⌜ r ≡ (valid (t .items) && goodCoefficient zeros (t .coefficient)) ⌝ }
-{
-    let p = t.items;
-    let c = t.coefficient;
-    if products::items::is_valid(p) {
-        return good_coefficient(zeros, c);
-    }
-    false
-}
-
-// The same answer by the numbers of the keys: terms with different numbers have different keys, and only where a number repeats
-// are the keys compared.
-fn all_good(zeros: bool, s: TermSet) -> bool
-    requires { ⌜ s .count ≤ 64 ⌝ }
-    ensures { λ r. ⌜ r ≡ each (goodTerm zeros) (heldBy s) ⌝ }
-{
-    let n = s.count;
-    let mut numbers = [0u64; 64];
-    let mut i: usize = 0;
-    while i < n {
-        let t = s.terms[i];
-        let p = t.items;
-        if !good_alone(zeros, t) {
-            return false;
-        }
-        let x = products::items::lettering_number(p);
-        if !is_new(&numbers, i, x) {
-            return good_terms(zeros, s);
-        }
-        numbers[i] = x;
-        i += 1;
-    }
-    true
-}
-
-// Whether zero records stand past the count.
-fn blanks_past(s: TermSet) -> bool
-    requires { ⌜ s .count ≤ 64 ⌝ }
-    ensures { λ r. ⌜ r ≡ each (λ t ts. isBlank t) (drop (s .count) (s .terms)) ⌝ }
-{
-    let mut i = s.count;
-    while i < 64 {
-        let t = s.terms[i];
-        if !is_blank(t) {
-            return false;
-        }
-        i += 1;
-    }
-    true
 }
 
 // Whether number 0 lets the set pass; only a `PauliOperator` may hold zeros.
