@@ -338,7 +338,7 @@ def sides(code):
         (4, 6, 2, (8, 4)), (6, 4, 2, (8, 6)), (1, 4, 2, (8, 4)), (1, 1, 2, (8, 2)), (3, 1, 3, (8, 3)), (1, 3, 3, (8, 3)), (1, 1, 3, "4"),
     ]:
         l, r = (terms(3, fill=3, at=1, key=on(site, 1), coefficient=ONE) for site in (left, right))
-        row(code, f"pair on {left} and {right} of {spins} spins", NONE, l, r, spins, 0, answer)
+        row(code, f"pairs on (0, 0), ({left}, {right}), (2, 2) of {spins} spins", NONE, l, r, spins, 0, answer)
 
 
 def parts(code):

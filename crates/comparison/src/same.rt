@@ -14,20 +14,7 @@ pub(crate) fn same_number(a: Complex, b: Complex) -> bool {
 }
 
 pub(crate) fn same_product(p: Items, q: Items) -> bool {
-    if p.count != q.count {
-        return false;
-    }
-    let mut i = 0usize;
-    while i < 31 {
-        if p.sites[i] != q.sites[i] {
-            return false;
-        }
-        if p.letters[i] != q.letters[i] {
-            return false;
-        }
-        i += 1;
-    }
-    true
+    products::items::same(p, q)
 }
 
 // A product with its coefficient.
