@@ -4,4 +4,5 @@ fn main() {
     println!("cargo:rustc-link-search=native={folder}");
     println!("cargo:rustc-link-lib=static=timed");
     println!("cargo:rerun-if-changed={folder}/libtimed.a");
+    println!("cargo:rerun-if-env-changed=TIMED_LIBRARY");
 }
