@@ -13,6 +13,7 @@ pub mod TargetLaws
 pub mod RemapLaws
 pub mod ChangeLaws
 pub mod RowLaws
+pub mod MaskLaws
 pub mod WalkLaws
 pub mod ComparisonLaws
 pub mod OrderingLaws

@@ -1,5 +1,6 @@
 pub mod Lists
 pub mod Record
+pub mod Masks
 pub mod Walks
 pub mod Answers
 pub mod Orders

@@ -1,9 +1,10 @@
 // The row of a product's matrix: one entry is not zero.
 ghost use mathlib.Core.Path.{_≡_};
-ghost use Prim.Native.Nat.{ℕ, _+_, _^_, _<_};
+ghost use Prim.Native.Nat.{ℕ, _+_, _*_, _%_, _^_, _<_};
 ghost use Rattle.letters.specs.Matrices.{lettersOf};
 ghost use Rattle.letters.specs.Single.{cell};
 ghost use Rattle.products.specs.Record.{reach};
+ghost use Rattle.products.specs.Masks.{letterBits, masksOf};
 ghost use Rattle.products.specs.Walks.{walkOf};
 ghost use Rattle.products.specs.Answers.{saidRow, rowAnswer};
 use crate::items::CAPACITY;
@@ -33,6 +34,31 @@ fn letter_cell(kind: Kind, letter: u8, bit: u64) -> u8
         Kind::Pauli => PAULI_CELLS[at],
         Kind::Decoherence => DECOHERENCE_CELLS[at],
     }
+}
+
+// The bits of the letters in the two masks: in the low half that of X and Y, in the high half that of Y and Z.
+const LETTER_BITS: [u64; 4] = [0, 1, 4294967297, 4294967296];
+
+// The bits of a letter at its site.
+fn bits_at(site: Site, letter: u8) -> u64
+    ensures { λ r. ⌜ r ≡ letterBits (letter % 4) * 2 ^ (site % 32) ⌝ }
+{
+    let place = (site % 32) as u32;
+    LETTER_BITS[(letter % 4) as usize] << place
+}
+
+// The letters as two masks: in the low half the bits that they turn over, in the high half those that give a sign. Number 0 isn't judged.
+pub fn masks(p: Items) -> u64
+    ensures { λ r. ⌜ r ≡ masksOf p ⌝ }
+{
+    let count = lettered(p.count);
+    let mut x: u64 = 0;
+    let mut i: usize = 0;
+    while i < count {
+        x = x ^ bits_at(p.sites[i], p.letters[i]);
+        i += 1;
+    }
+    x
 }
 
 // The number with the one bit `k`.
