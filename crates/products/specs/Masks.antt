@@ -21,3 +21,9 @@ masksIn sites letters (suc n) = bitXor (masksIn sites letters n) (letterBits (at
 -- of a record: in the low half the bits that it turns over, in the high half those that give a sign
 unfoldable pub masksOf : Items → ℕ
 masksOf p = masksIn (p .sites) (p .letters) (min (p .count) capacity)
+
+unfoldable pub flipOf : Items → ℕ
+flipOf p = masksOf p % 2 ^ 32
+
+unfoldable pub signOf : Items → ℕ
+signOf p = masksOf p / 2 ^ 32

@@ -2,10 +2,9 @@
 ghost use mathlib.Core.Path.{_≡_};
 ghost use Prim.Native.Nat.{ℕ, _+_, _*_, _%_, _^_, _<_};
 ghost use Rattle.letters.specs.Matrices.{lettersOf};
-ghost use Rattle.letters.specs.Single.{cell};
 ghost use Rattle.products.specs.Record.{reach};
 ghost use Rattle.products.specs.Masks.{letterBits, masksOf};
-ghost use Rattle.products.specs.Walks.{walkOf};
+ghost use Rattle.products.specs.Walks.{turnOf, walkOf};
 ghost use Rattle.products.specs.Answers.{saidRow, rowAnswer};
 use crate::items::CAPACITY;
 use crate::items::Items;
@@ -19,22 +18,8 @@ use refusal::Refusal;
 // The most spins that a row takes.
 pub const MOST_SPINS: u32 = 31;
 
-// The entries of the letters' rows that are not zero, at 2 letter + row: 2 power + column.
-const PAULI_CELLS: [u8; 8] = [0, 1, 1, 0, 7, 2, 0, 5];
-
-const DECOHERENCE_CELLS: [u8; 8] = [0, 1, 1, 0, 1, 4, 0, 5];
-
-// The entry of a letter's row that is not zero.
-fn letter_cell(kind: Kind, letter: u8, bit: u64) -> u8
-    requires { ⌜ (letter < 4) × (bit < 2) ⌝ }
-    ensures { λ r. ⌜ r ≡ cell (lettersOf kind) letter bit ⌝ }
-{
-    let at = 2 * (letter as usize) + (bit as usize);
-    match kind {
-        Kind::Pauli => PAULI_CELLS[at],
-        Kind::Decoherence => DECOHERENCE_CELLS[at],
-    }
-}
+// One more than the largest mask: sites count below 32.
+pub const MASK_SIZE: u64 = 4294967296;
 
 // The bits of the letters in the two masks: in the low half that of X and Y, in the high half that of Y and Z.
 const LETTER_BITS: [u64; 4] = [0, 1, 4294967297, 4294967296];
@@ -90,29 +75,35 @@ pub fn reach_of(p: Items) -> usize
     after(p.sites[count - 1])
 }
 
-// Where a pass over a record's places ends: a column and a power of i.
+// A column and a power of i, found from the masks.
 pub struct WalkEnd {
     pub column: u64,
     pub power: u8,
 }
 
-// The row turned into a column, place by place: a free site leaves the bit as it is. Number 0 isn't judged.
+// The power of i that stands in row 0 of Y.
+fn turn_of(kind: Kind) -> u32
+    ensures { λ r. ⌜ r ≡ turnOf (lettersOf kind) ⌝ }
+{
+    match kind {
+        Kind::Pauli => 3,
+        Kind::Decoherence => 0,
+    }
+}
+
+// The column and the power of i of the entry of `row` that is not zero. Number 0 isn't judged.
 pub fn walked(kind: Kind, p: Items, row: u64) -> WalkEnd
     ensures { λ r. ⌜ _≡_ {A = ℕ × ℕ} (r .column, r .power) (walkOf (lettersOf kind) p row) ⌝ }
 {
-    let count = lettered(p.count);
-    let mut column = row;
-    let mut power: u8 = 0;
-    let mut i: usize = 0;
-    while i < count {
-        let place = place_of((p.sites[i] % 64) as u32);
-        let bit = column / place % 2;
-        let here = letter_cell(kind, p.letters[i] % 4, bit);
-        column = column - bit * place + ((here % 2) as u64) * place;
-        power = (power + here / 2) % 4;
-        i += 1;
+    let m = masks(p);
+    let flip = m % MASK_SIZE;
+    let sign = m / MASK_SIZE;
+    let turn = turn_of(kind);
+    let power = turn * u64::count_ones(flip & sign) + 2 * u64::count_ones(row & sign);
+    WalkEnd {
+        column: row ^ flip,
+        power: (power % 4) as u8,
     }
-    WalkEnd { column, power }
 }
 
 // The column and the power of i of the entry of `row` that is not zero, over `spins` spins.
