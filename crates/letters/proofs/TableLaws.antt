@@ -46,7 +46,6 @@ pub record Closed (M : Letters) : Type 0 where
   pub conjugated-lt : (l : ℕ) → l < 4 → conjugated M l < 16
   pub conjugated-letter : (l : ℕ) → l < 4 → letterOf (conjugated M l) ≡ l
   -- in each row a letter has one entry that is not zero, a power of i
-  pub cell-lt : (l x : ℕ) → l < 4 → x < 2 → cell M l x < 8
   pub cell-right : (l x y : ℕ) → l < 4 → x < 2 → y < 2 → M l x y ≡ cond (eqb y (cell M l x % 2)) (i^ (cell M l x / 2)) 𝟘
 
 -- each letter of M is a power of i times the letter of M′ with the same code
@@ -82,9 +81,6 @@ zeroTimesTest M = every 4 (λ l. eqb (times M 0 l) l)
 
 conjugatedTest : Letters → Bool
 conjugatedTest M = every 4 (λ l. codedTest l (conjugated M l))
-
-cellTest : Letters → Bool
-cellTest M = every 4 (λ l. every 2 (λ x. ltb (cell M l x) 8))
 
 entryTest : Letters → ℕ → ℕ → ℕ → Bool
 entryTest M l x y = eqG (M l x y) (cond (eqb y (cell M l x % 2)) (i^ (cell M l x / 2)) 𝟘)
@@ -122,11 +118,6 @@ unfolding conjugatedTest codedTest conjugated asLetter same scaled firstFrom eve
 conjugated-test Pauli = refl
 conjugated-test Decoherence = refl
 
-cell-test : (kind : Kind) → cellTest (lettersOf kind) ≡ true
-unfolding cellTest cell firstFrom every eqG eqℤ lettersOf pauli decoherence two-by-two i^ _⊗_ 𝟘 𝟙 −𝟙 i⁺ i⁻
-cell-test Pauli = refl
-cell-test Decoherence = refl
-
 row-test : (kind : Kind) → rowTest (lettersOf kind) ≡ true
 unfolding rowTest entryTest cell firstFrom every eqG eqℤ lettersOf pauli decoherence two-by-two i^ _⊗_ 𝟘 𝟙 −𝟙 i⁺ i⁻
 row-test Pauli = refl
@@ -143,7 +134,7 @@ converted-test Decoherence Decoherence = refl
 
 -- both kinds of letters have these facts
 pub closed : (kind : Kind) → Closed (lettersOf kind)
-unfolding identityTest timesTest timesZeroTest zeroTimesTest conjugatedTest cellTest entryTest rowTest
+unfolding identityTest timesTest timesZeroTest zeroTimesTest conjugatedTest entryTest rowTest
 closed kind =
     let M = lettersOf kind in
     record {
@@ -153,7 +144,6 @@ closed kind =
       zero-times = λ l hl. eqb-true _ _ (every-at 4 (λ l. eqb (times M 0 l) l) (zero-times-test kind) l hl);
       conjugated-lt = λ l hl. coded-lt l (conjugated M l) (every-at 4 (λ l. codedTest l (conjugated M l)) (conjugated-test kind) l hl);
       conjugated-letter = λ l hl. coded-letter l (conjugated M l) (every-at 4 (λ l. codedTest l (conjugated M l)) (conjugated-test kind) l hl);
-      cell-lt = λ l x hl hx. ltb-true _ _ (every-both 4 2 (λ l x. ltb (cell M l x) 8) (cell-test kind) l x hl hx);
       cell-right = λ l x y hl hx hy. eqG-true _ _ (every-both 2 2 (entryTest M l) (every-at 4 (λ l. every 2 (λ x. every 2 (entryTest M l x))) (row-test kind) l hl) x y hx hy);
     }
 

@@ -26,11 +26,6 @@ use Rattle.products.specs.Walks.{turnOf, walkOf}
 use Rattle.products.specs.declared.items.Items.{Items}
 use Rattle.products.proofs.MaskLaws.{flipBit, signBit, flip-lt, sign-lt, flips, signs, letter-lt, flips-masked, signs-masked}
 
--- the power of i in row 0 of Y
-abbrev turns : Kind → ℕ
-turns Pauli = 3
-turns Decoherence = 0
-
 -- ---- the cells of the letters by their bits
 
 -- the power of i of a Y's bit and of a row's bit, for one letter or many
@@ -108,11 +103,23 @@ module _ (kind : Kind) (f : ℕ → ℕ) (code : (s : ℕ) → f s < 4) (r : ℕ
 
 -- ---- the entry of a record's row
 
--- the power of i of Y
+-- the power of i of Y, by kind
+pub turn-pauli : turnOf pauli ≡ 3
+unfolding turnOf cell firstFrom eqG eqℤ two-by-two pauli i^ 𝟘 𝟙 −𝟙 i⁺ i⁻ _⊗_
+turn-pauli = refl
+
+pub turn-decoherence : turnOf decoherence ≡ 0
+unfolding turnOf cell firstFrom eqG eqℤ two-by-two decoherence i^ 𝟘 𝟙 −𝟙 i⁺ i⁻ _⊗_
+turn-decoherence = refl
+
+abbrev turns : Kind → ℕ
+turns Pauli = 3
+turns Decoherence = 0
+
 turn-found : (kind : Kind) → turns kind ≡ turnOf (lettersOf kind)
-unfolding turnOf cell firstFrom eqG eqℤ two-by-two pauli decoherence lettersOf i^ 𝟘 𝟙 −𝟙 i⁺ i⁻ _⊗_
-turn-found Pauli = refl
-turn-found Decoherence = refl
+unfolding lettersOf
+turn-found Pauli = sym turn-pauli
+turn-found Decoherence = sym turn-decoherence
 
 pub turn-is : {kind kind′ : Kind} {t : ℕ} → kind ≡ kind′ → t ≡ turns kind′ → t ≡ turnOf (lettersOf kind)
 turn-is {kind} e t = t ∙ ap turns (sym e) ∙ turn-found kind

@@ -1,26 +1,30 @@
 -- The entries found from the products' own rows: their columns are in the matrix and their powers below 4, so that their pairs fit 64 bits;
 -- and scaled they are the contributions of a term to a row. Assumes nothing.
-use mathlib.Core.Path.{_≡_, refl, sym, ap, subst, _∙_}
+use mathlib.Core.Path.{_≡_, refl, sym, ap, ap₂, subst, _∙_}
 use mathlib.Core.Bool.{Bool, true, false, cond}
 use mathlib.Core.List.{List, [], _∷_, map}
 use Prim.Native.Nat.{ℕ, _+_, _-_, _*_, _/_, _%_, _^_, _≤_, _<_}
-use native.Mathlib.Nat.{mod-lt, mod-eq-of-lt, div-lt-iff-lt-mul}
+use native.Mathlib.Nat.{zero-add, add-assoc, add-mod-mod, add-mul-mod-self-right, mod-lt, mod-eq-of-lt, div-lt-iff-lt-mul}
 use native.Mathlib.Omega.{arith}
 use lib.Dec.{ltb}
 use lib.Arith.{digits-lt}
+use lib.Bits.{bitAnd, bitXor}
+use lib.Count.{ones}
 use lib.Pow.{pow-add, pow-mono, pow-pos}
 use borrow.Author.Tests.{le-ltb, lt-ltb}
 use Rattle.letters.specs.Matrices.{Letters, pauli, decoherence, lettersOf}
 use Rattle.letters.specs.Rows.{columnOf, rowPower}
 use Rattle.letters.specs.declared.Kind.{Kind}
 use Rattle.letters.specs.declared.Kind.the-variants.{Pauli, Decoherence}
+use Rattle.letters.proofs.ParityLaws.{ones-xor, and-xor}
 use Rattle.letters.proofs.Letterings.{columnOf-lt}
 use Rattle.products.specs.Record.{valid, letterAt, reach}
 use Rattle.products.specs.Answers.{mostSpins}
+use Rattle.products.specs.Masks.{masksOf, flipOf, signOf}
 use Rattle.products.specs.Walks.{walkOf}
 use Rattle.products.specs.declared.items.Items.{Items}
 use Rattle.products.proofs.RowLaws.{row-small}
-use Rattle.products.proofs.WalkLaws.{walk-power-lt, walk-inside}
+use Rattle.products.proofs.WalkLaws.{turn-pauli, turn-decoherence, walk-power-lt, walk-inside}
 use Rattle.rows.specs.Numbers.{Numbers}
 use Rattle.rows.specs.Contributions.{operatorTerms, commutatorTerms, noiseTerms}
 use Rattle.rows.specs.Entries.{entryOf, commutatorEntries, noiseEntries}
@@ -78,34 +82,105 @@ row-fits {b} n row h e hr hb =
 pub rest-below : {d : ℕ} (n row : ℕ) → d ≡ 2 ^ n → row % d < 2 ^ n
 rest-below n row e = rw e (mod-lt row (pow-pos n))
 
--- ---- the entries from those of the products' rows
+-- ---- powers of i by counts of bits
+
+-- fours fall away
+spread : (c u v : ℕ) → (c + 3 * (u % 4) + v % 4) % 4 ≡ (c + 3 * u + v) % 4
+spread c u v = sym (ap (λ (x : ℕ). x % 4) (go u v) ∙ add-mul-mod-self-right (c + 3 * (u % 4) + v % 4) (3 * (u / 4) + v / 4) 4)
+  where
+    go : (u v : ℕ) → c + 3 * u + v ≡ c + 3 * (u % 4) + v % 4 + (3 * (u / 4) + v / 4) * 4
+    go u v = omega arith
+
+-- of signs only their parity counts
+even : (b : ℕ) → 2 * (b % 2) ≡ 2 * b % 4
+even b = omega arith
+
+-- of the letters Y and the signs of a Pauli product
+y-power : (c a b : ℕ) → (c + 3 * (a % 4) + 2 * (b % 2)) % 4 ≡ (c + (3 * a + 2 * b) % 4) % 4
+y-power c a b = ap (λ (x : ℕ). (c + 3 * (a % 4) + x) % 4) (even b) ∙ spread c a (2 * b) ∙ ap (λ (x : ℕ). x % 4) (add-assoc c (3 * a) (2 * b)) ∙ sym (add-mod-mod c (3 * a + 2 * b) 4)
+
+-- of two products that have no power but their signs
+jump-power : (a b x y : ℕ) → 2 * (ones (bitXor a b) % 2) % 4 ≡ ((0 * x + 2 * ones a) % 4 + (0 * y + 2 * ones b) % 4) % 4
+jump-power a b x y = go (ones a) (ones b) (ones (bitXor a b)) (ones-xor a b)
+  where
+    go : (a b c : ℕ) → c % 2 ≡ (a + b) % 2 → 2 * (c % 2) % 4 ≡ ((0 * x + 2 * a) % 4 + (0 * y + 2 * b) % 4) % 4
+    go a b c e = omega arith
+
+-- of the conjugate of one and the other, in one row
+half-power : (m s t x y : ℕ) → 2 * (ones (bitAnd m (bitXor s t)) % 2) % 4 ≡ (3 * ((0 * x + 2 * ones (bitAnd m t)) % 4) + (0 * y + 2 * ones (bitAnd m s)) % 4) % 4
+half-power m s t x y =
+    go (ones (bitAnd m s)) (ones (bitAnd m t)) (ones (bitAnd m (bitXor s t))) (ap (λ (x : ℕ). ones x % 2) (and-xor m s t) ∙ ones-xor (bitAnd m s) (bitAnd m t))
+    ∙ sym (ap (λ (u : ℕ). (u + (0 * y + 2 * ones (bitAnd m s)) % 4) % 4) (sym (zero-add _)) ∙ spread 0 (0 * x + 2 * ones (bitAnd m t)) (0 * y + 2 * ones (bitAnd m s)))
+  where
+    go : (a b c : ℕ) → c % 2 ≡ (a + b) % 2 → 2 * (c % 2) % 4 ≡ (0 + 3 * (0 * x + 2 * b) + (0 * y + 2 * a)) % 4
+    go a b c e = omega arith
+
+-- ---- the entries of a row from the masks
 
 -- too many spins
 pub commutator-none : (p : Items) (n row : ℕ) → mostSpins < n → (0, 0) ∷ (0, 0) ∷ [] ≡ commutatorEntries p n row
 unfolding commutatorEntries
 commutator-none p n row h = rw (lt-ltb mostSpins n h)
 
--- a, b and back are the entries of the rows k, l and b of the product
-pub commutator-found : (p : Items) (n row : ℕ) {d : ℕ} {a b back left right : ℕ × ℕ} → n ≤ mostSpins → d ≡ 2 ^ n
-    → a ≡ entryOf pauli p n (row / d) → b ≡ entryOf pauli p n (row % d) → back ≡ entryOf pauli p n (b .0)
-    → left ≡ (a .0 * d + row % d, (3 + a .1) % 4) → right ≡ (row / d * d + b .0, (1 + back .1) % 4)
+-- by the flips f and the signs s of the product; b is the column of row l
+commutator-by-masks : (p : Items) (n row : ℕ) → n ≤ mostSpins
+    → let k = row / 2 ^ n in let l = row % 2 ^ n in let f = flipOf p in let s = signOf p in let b = bitXor l f % 2 ^ n in
+    (bitXor k f % 2 ^ n * 2 ^ n + l, (3 + 3 * (ones (bitAnd f s) % 4) + 2 * (ones (bitAnd k s) % 2)) % 4)
+    ∷ (k * 2 ^ n + b, (1 + 3 * (ones (bitAnd f s) % 4) + 2 * (ones (bitAnd b s) % 2)) % 4) ∷ []
+    ≡ commutatorEntries p n row
+unfolding commutatorEntries entryOf walkOf
+commutator-by-masks p n row h =
+    let k = row / 2 ^ n in
+    let b = bitXor (row % 2 ^ n) (flipOf p) % 2 ^ n in
+    let ys = ones (bitAnd (flipOf p) (signOf p)) in
+    rw (le-ltb mostSpins n h, turn-pauli)
+    (ap₂ (λ (x y : ℕ). (bitXor k (flipOf p) % 2 ^ n * 2 ^ n + row % 2 ^ n, x) ∷ (k * 2 ^ n + b, y) ∷ []) (y-power 3 ys (ones (bitAnd k (signOf p)))) (y-power 1 ys (ones (bitAnd b (signOf p)))))
+
+-- from the masks that the code reads, where d is the matrix's size
+pub commutator-found : (p : Items) (n row : ℕ) {d both ys a b : ℕ} {left right : ℕ × ℕ} → n ≤ mostSpins → d ≡ 2 ^ n → both ≡ masksOf p
+    → ys ≡ 3 * (ones (bitAnd (both % 2 ^ 32) (both / 2 ^ 32)) % 4)
+    → a ≡ 2 * (ones (bitAnd (row / d) (both / 2 ^ 32)) % 2) → left ≡ (bitXor (row / d) (both % 2 ^ 32) % d * d + row % d, (3 + ys + a) % 4)
+    → b ≡ 2 * (ones (bitAnd (bitXor (row % d) (both % 2 ^ 32) % d) (both / 2 ^ 32)) % 2) → right ≡ (row / d * d + bitXor (row % d) (both % 2 ^ 32) % d, (1 + ys + b) % 4)
     → left ∷ right ∷ [] ≡ commutatorEntries p n row
-unfolding commutatorEntries
-commutator-found p n row h d a b back left right = rw (le-ltb mostSpins n h) (cc)
+unfolding flipOf signOf
+commutator-found p n row h d m ys a left b right = rw (left, right, ys, a, b, d, m) (commutator-by-masks p n row h)
 
 pub noise-none : (p q : Items) (n row : ℕ) → mostSpins < n → (0, 0) ∷ (0, 0) ∷ (0, 0) ∷ [] ≡ noiseEntries p q n row
 unfolding noiseEntries
 noise-none p q n row h = rw (lt-ltb mostSpins n h)
 
--- m is the column of row k of R, where L has the entry a′ and R the entry b′; w, a″ and b″ are those of row l of L
-pub noise-found : (p q : Items) (n row : ℕ) {d : ℕ} {a b m a′ b′ w a″ b″ jump left right : ℕ × ℕ} → n ≤ mostSpins → d ≡ 2 ^ n
-    → a ≡ entryOf decoherence p n (row / d) → b ≡ entryOf decoherence q n (row % d)
-    → m ≡ entryOf decoherence q n (row / d) → a′ ≡ entryOf decoherence p n (m .0) → b′ ≡ entryOf decoherence q n (m .0)
-    → w ≡ entryOf decoherence p n (row % d) → a″ ≡ entryOf decoherence p n (w .0) → b″ ≡ entryOf decoherence q n (w .0)
-    → jump ≡ (a .0 * d + b .0, (a .1 + b .1) % 4) → left ≡ (a′ .0 * d + row % d, (3 * b′ .1 + a′ .1) % 4) → right ≡ (row / d * d + b″ .0, (3 * b″ .1 + a″ .1) % 4)
+-- by the flips and the signs of the products; m is the column of row k of R, and w that of row l of L
+noise-by-masks : (p q : Items) (n row : ℕ) → n ≤ mostSpins
+    → let k = row / 2 ^ n in let l = row % 2 ^ n in let m = bitXor k (flipOf q) % 2 ^ n in let w = bitXor l (flipOf p) % 2 ^ n in let s = bitXor (signOf p) (signOf q) in
+    (bitXor k (flipOf p) % 2 ^ n * 2 ^ n + bitXor l (flipOf q) % 2 ^ n, 2 * (ones (bitXor (bitAnd k (signOf p)) (bitAnd l (signOf q))) % 2) % 4)
+    ∷ (bitXor m (flipOf p) % 2 ^ n * 2 ^ n + l, 2 * (ones (bitAnd m s) % 2) % 4)
+    ∷ (k * 2 ^ n + bitXor w (flipOf q) % 2 ^ n, 2 * (ones (bitAnd w s) % 2) % 4) ∷ []
+    ≡ noiseEntries p q n row
+unfolding noiseEntries entryOf walkOf
+noise-by-masks p q n row h =
+    let k = row / 2 ^ n in
+    let l = row % 2 ^ n in
+    let m = bitXor k (flipOf q) % 2 ^ n in
+    let w = bitXor l (flipOf p) % 2 ^ n in
+    let x = ones (bitAnd (flipOf p) (signOf p)) in
+    let y = ones (bitAnd (flipOf q) (signOf q)) in
+    rw (
+      le-ltb mostSpins n h,
+      turn-decoherence,
+      jump-power (bitAnd k (signOf p)) (bitAnd l (signOf q)) x y,
+      half-power m (signOf p) (signOf q) y x,
+      half-power w (signOf p) (signOf q) y x,
+    )
+
+-- from the masks that the code reads
+pub noise-found : (p q : Items) (n row : ℕ) {d of-left of-right a b c : ℕ} {jump left right : ℕ × ℕ} → n ≤ mostSpins → d ≡ 2 ^ n → of-left ≡ masksOf p → of-right ≡ masksOf q
+    → let k = row / d in let l = row % d in let f = of-left % 2 ^ 32 in let g = of-right % 2 ^ 32 in let s = of-left / 2 ^ 32 in let t = of-right / 2 ^ 32 in
+    a ≡ 2 * (ones (bitXor (bitAnd k s) (bitAnd l t)) % 2) → jump ≡ (bitXor k f % d * d + bitXor l g % d, a % 4)
+    → b ≡ 2 * (ones (bitAnd (bitXor k g % d) (bitXor s t)) % 2) → left ≡ (bitXor (bitXor k g % d) f % d * d + l, b % 4)
+    → c ≡ 2 * (ones (bitAnd (bitXor l f % d) (bitXor s t)) % 2) → right ≡ (k * d + bitXor (bitXor l f % d) g % d, c % 4)
     → jump ∷ left ∷ right ∷ [] ≡ noiseEntries p q n row
-unfolding noiseEntries
-noise-found p q n row h d a b m a′ b′ w a″ b″ jump left right = rw (le-ltb mostSpins n h) (cc)
+unfolding flipOf signOf
+noise-found p q n row h d m m′ a jump b left c right = rw (jump, left, right, a, b, c, d, m, m′) (noise-by-masks p q n row h)
 
 -- ---- a product that fits n spins
 

@@ -2,13 +2,17 @@
 ghost use mathlib.Core.Path.{_≡_};
 ghost use mathlib.Core.List.{[], _∷_};
 ghost use Prim.Native.Nat.{ℕ, _+_, _*_, _%_, _^_, _<_};
+ghost use lib.Bits.{bitAnd};
+ghost use lib.Count.{ones};
 ghost use Rattle.letters.specs.Matrices.{lettersOf};
 ghost use Rattle.rows.specs.Numbers.{minusHalfUnit};
 ghost use Rattle.rows.specs.Entries.{entryOf, commutatorEntries, noiseEntries};
 use complex::Complex;
 use letters::Kind;
 use products::items::Items;
+use products::row::MASK_SIZE;
 use products::row::MOST_SPINS;
+use products::row::masks;
 use products::row::walked;
 
 // A column and a power of i.
@@ -66,6 +70,20 @@ pub fn operator_entry(kind: Kind, p: Items, spins: u32, row: u64) -> Entry
     }
 }
 
+// The power of i of one sign for each bit of `x`.
+fn sign_power(x: u64) -> u8
+    ensures { λ r. ⌜ r ≡ 2 * (ones x % 2) ⌝ }
+{
+    2 * ((u64::count_ones(x) % 2) as u8)
+}
+
+// The power of i of the letters Y of a Pauli product with these masks: 3 for each.
+fn y_power(flip: u64, sign: u64) -> u8
+    ensures { λ r. ⌜ r ≡ 3 * (ones (bitAnd flip sign) % 4) ⌝ }
+{
+    3 * ((u64::count_ones(flip & sign) % 4) as u8)
+}
+
 // The entries of a Pauli product in a commutator's row (k, l). Row l has its entry in column b.
 pub fn commutator_entries(p: Items, spins: u32, row: u64) -> CommutatorEntries
     ensures { λ r. ⌜ ((r .left .column, r .left .power) ∷ (r .right .column, r .right .power) ∷ []) ≡ commutatorEntries p spins row ⌝ }
@@ -83,15 +101,18 @@ pub fn commutator_entries(p: Items, spins: u32, row: u64) -> CommutatorEntries
     let size = size_of(spins);
     let k = row / size;
     let l = row % size;
-    let at_k = operator_entry(Kind::Pauli, p, spins, k);
-    let at_l = operator_entry(Kind::Pauli, p, spins, l);
-    let at_b = operator_entry(Kind::Pauli, p, spins, at_l.column);
-    let left = paired(size, at_k.column, l, 3 + at_k.power);
-    let right = paired(size, k, at_l.column, 1 + at_b.power);
+    let both = masks(p);
+    let flip = both % MASK_SIZE;
+    let sign = both / MASK_SIZE;
+    let b = (l ^ flip) % size;
+    let ys = y_power(flip, sign);
+    let left = paired(size, (k ^ flip) % size, l, 3 + ys + sign_power(k & sign));
+    let right = paired(size, k, b, 1 + ys + sign_power(b & sign));
     CommutatorEntries { left, right }
 }
 
 // The entries of a pair of decoherence products in a noise row (k, l). Row k of R has its entry in column m, and row l of L in column w.
+// All powers are even: iY has none of its own, so that only the parity of the signs counts.
 pub fn noise_entries(left: Items, right: Items, spins: u32, row: u64) -> NoiseEntries
     ensures { λ r. ⌜ ((r .jump .column, r .jump .power) ∷ (r .left .column, r .left .power) ∷ (r .right .column, r .right .power) ∷ []) ≡ noiseEntries left right spins row ⌝ }
 {
@@ -109,18 +130,23 @@ pub fn noise_entries(left: Items, right: Items, spins: u32, row: u64) -> NoiseEn
     let size = size_of(spins);
     let k = row / size;
     let l = row % size;
-    let left_k = operator_entry(Kind::Decoherence, left, spins, k);
-    let right_l = operator_entry(Kind::Decoherence, right, spins, l);
-    let right_k = operator_entry(Kind::Decoherence, right, spins, k);
-    let left_m = operator_entry(Kind::Decoherence, left, spins, right_k.column);
-    let right_m = operator_entry(Kind::Decoherence, right, spins, right_k.column);
-    let left_l = operator_entry(Kind::Decoherence, left, spins, l);
-    let left_w = operator_entry(Kind::Decoherence, left, spins, left_l.column);
-    let right_w = operator_entry(Kind::Decoherence, right, spins, left_l.column);
-    let power = left_k.power + right_l.power;
-    let jump = paired(size, left_k.column, right_l.column, power);
-    let on_left = paired(size, left_m.column, l, 3 * right_m.power + left_m.power);
-    let on_right = paired(size, k, right_w.column, 3 * right_w.power + left_w.power);
+    let of_left = masks(left);
+    let of_right = masks(right);
+    let left_flip = of_left % MASK_SIZE;
+    let left_sign = of_left / MASK_SIZE;
+    let right_flip = of_right % MASK_SIZE;
+    let right_sign = of_right / MASK_SIZE;
+    let m = (k ^ right_flip) % size;
+    let w = (l ^ left_flip) % size;
+    let signs = left_sign ^ right_sign;
+    let jump = paired(
+        size,
+        (k ^ left_flip) % size,
+        (l ^ right_flip) % size,
+        sign_power((k & left_sign) ^ (l & right_sign)),
+    );
+    let on_left = paired(size, (m ^ left_flip) % size, l, sign_power(m & signs));
+    let on_right = paired(size, k, (w ^ right_flip) % size, sign_power(w & signs));
     NoiseEntries {
         jump,
         left: on_left,

@@ -1,10 +1,8 @@
--- `entries::commutator_entries`: the entries of three rows of the product; columns in the matrix and powers below 4, so that pairs and sums fit.
+-- `entries::commutator_entries`: columns and powers from the product's masks; columns in the matrix, so that pairs fit.
 -- Assumes nothing.
-use native.Mathlib.Omega.{arith}
 use borrow.Author.Needs.{needs}
-use Rattle.letters.specs.Matrices.{lettersOf}
 use Rattle.products.proofs.RowLaws.{unit-positive}
-use Rattle.rows.proofs.EntryLaws.{found-small, pair-fits, row-fits, rest-below, commutator-none, commutator-found}
+use Rattle.rows.proofs.EntryLaws.{pair-fits, row-fits, rest-below, commutator-none, commutator-found}
 use Rattle.rows.proofs.entries.commutator_entries.Statement.{statement}
 use Rattle.rows.proofs.entries.commutator_entries.Tie as tie
 
@@ -20,43 +18,55 @@ div-k c = unit-positive _ (c .size-of .ensures)
 rem-l : tie.Need-rem-l
 rem-l c = unit-positive _ (c .size-of .ensures)
 
-operator-entry-requires : tie.Need-operator-entry-requires
-operator-entry-requires c κs = search needs
+masks-requires : tie.Need-masks-requires
+masks-requires c κs = search needs
 
-operator-entry-requires-2 : tie.Need-operator-entry-requires-2
-operator-entry-requires-2 c κs = search needs
+rem-b : tie.Need-rem-b
+rem-b c = unit-positive _ (c .before .size-of .ensures)
 
-operator-entry-requires-3 : tie.Need-operator-entry-requires-3
-operator-entry-requires-3 c κs = search needs
+y-power-requires : tie.Need-y-power-requires
+y-power-requires c κs = search needs
+
+rem-paired : tie.Need-rem-paired
+rem-paired c = unit-positive _ (c .before .before .size-of .ensures)
 
 add-paired : tie.Need-add-paired
-add-paired c = record { fits = omega (arith, found-small _ _ _ _ (c .before .before .before .operator-entry .ensures) .power) }
+add-paired c = search needs
+
+sign-power-requires : tie.Need-sign-power-requires
+sign-power-requires c κs = search needs
+
+add-paired-2 : tie.Need-add-paired-2
+add-paired-2 c = search needs
 
 paired-requires : tie.Need-paired-requires
 paired-requires c κs =
-    let row-k = c .before .before .before in
-    let size = row-k .before in
-    pair-fits _ (size .before .if1 .left) (size .size-of .ensures) (found-small _ _ _ _ (row-k .operator-entry .ensures) .column) (rest-below _ _ (size .size-of .ensures))
+    let size = c .before .before .before in
+    pair-fits _ (size .before .if1 .left) (size .size-of .ensures) (rest-below _ _ (size .size-of .ensures)) (rest-below _ _ (size .size-of .ensures))
 
-add-paired-2 : tie.Need-add-paired-2
-add-paired-2 c = record { fits = omega (arith, found-small _ _ _ _ (c .before .before .before .operator-entry3 .ensures) .power) }
+add-paired-3 : tie.Need-add-paired-3
+add-paired-3 c = search needs
+
+sign-power-requires-2 : tie.Need-sign-power-requires-2
+sign-power-requires-2 c κs = search needs
+
+add-paired-4 : tie.Need-add-paired-4
+add-paired-4 c = search needs
 
 paired-requires-2 : tie.Need-paired-requires-2
 paired-requires-2 c κs =
-    let row-l = c .before .before .before .before in
-    let size = row-l .before .before in
-    row-fits _ _ (size .before .if1 .left) (size .size-of .ensures) (size .before .before .fits .row .fits) (found-small _ _ _ _ (row-l .operator-entry2 .ensures) .column)
+    let size = c .before .before .before .before .before in
+    row-fits _ _ (size .before .if1 .left) (size .size-of .ensures) (size .before .before .fits .row .fits) (rest-below _ _ (size .size-of .ensures))
 
 returns-2 : tie.Need-returns-2
-unfolding lettersOf
 returns-2 c =
-    let row-b = c .before .before .before .before in
-    let row-l = row-b .before in
-    let row-k = row-l .before in
-    let size = row-k .before in
-    commutator-found _ _ _ (size .before .if1 .left) (size .size-of .ensures)
-    (row-k .operator-entry .ensures) (row-l .operator-entry2 .ensures) (row-b .operator-entry3 .ensures)
-    (c .before .before .paired .ensures) (c .paired2 .ensures)
+    let signs = c .before in
+    let left = signs .before in
+    let ys = left .before .before in
+    let both = ys .before in
+    let size = both .before in
+    commutator-found _ _ _ (size .before .if1 .left) (size .size-of .ensures) (both .masks .ensures) (ys .y-power .ensures)
+    (left .before .sign-power .ensures) (left .paired .ensures) (signs .sign-power2 .ensures) (c .paired2 .ensures)
 
 pub commutator-entries-spec : {M : Type 1} → statement M
 commutator-entries-spec =
@@ -66,11 +76,16 @@ commutator-entries-spec =
     size-of-requires
     div-k
     rem-l
-    operator-entry-requires
-    operator-entry-requires-2
-    operator-entry-requires-3
+    masks-requires
+    rem-b
+    y-power-requires
+    rem-paired
     add-paired
-    paired-requires
+    sign-power-requires
     add-paired-2
+    paired-requires
+    add-paired-3
+    sign-power-requires-2
+    add-paired-4
     paired-requires-2
     returns-2)
