@@ -54,10 +54,6 @@ pub entry-found : (M : Letters) (p : Items) (n r : ℕ) {d : ℕ} {w : ℕ × �
 unfolding entryOf
 entry-found M p n r h e s = rw (le-ltb mostSpins n h, e, s)
 
--- what equals an entry is small
-pub found-small : (M : Letters) (p : Items) (n r : ℕ) {x : ℕ × ℕ} → x ≡ entryOf M p n r → Small n x
-found-small M p n r e = rw e (entry-small M p n r)
-
 -- ---- pairs fit 64 bits
 
 -- a pair of columns, where d is the matrix's size
