@@ -28,7 +28,7 @@ use Rattle.products.proofs.MaskLaws.{flipBit, signBit, flip-lt, sign-lt
 
 -- ---- the cells of the letters by their bits
 
--- the power of i of a Y's bit and of a row's bit, for one letter or many
+-- the power of i of the bits x turned over, the bits z of a sign and the row r, for one letter or many
 abbrev powerBy : Letters → ℕ → ℕ → ℕ → ℕ
 powerBy M x z r = turnOf M * ones (bitAnd x z) + 2 * ones (bitAnd r z)
 
@@ -74,7 +74,6 @@ module _ (kind : Kind) (f : ℕ → ℕ) (code : (s : ℕ) → f s < 4) (r : ℕ
   unfolding columnOf total
   column-masked zero = sym (xor-zero-r (r % 1) ∙ mod-one r)
   column-masked (suc n) =
-      let M = lettersOf kind in
       let x = flipBit (f n) in
       ap₂ (λ a b. a + b * 2 ^ n) (column-masked n) (cell-column kind (f n) (bit n r) (code n) (bit-lt n r))
       ∙ add-comm (bitXor (r % 2 ^ n) (flips f n)) (bitXor (bit n r) x * 2 ^ n)

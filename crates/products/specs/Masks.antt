@@ -1,5 +1,5 @@
 -- The letters of a record as two masks of bits in one number: X turns its site's bit over, Z gives a sign where that bit is 1, Y does both.
--- Defined for every record; of a valid one (WalkLaws: `flips-masked`, `signs-masked`) each site has one bit in each mask.
+-- Defined for every record; of a valid one (MaskLaws: `flips-masked`, `signs-masked`) each letter has its site's bits.
 use Prim.Native.Nat.{ℕ, zero, suc, _+_, _*_, _/_, _%_, _^_, min}
 use mathlib.Core.List.{List}
 use mathlib.Core.Bool.{cond}
@@ -22,8 +22,10 @@ masksIn sites letters (suc n) = bitXor (masksIn sites letters n) (letterBits (at
 unfoldable pub masksOf : Items → ℕ
 masksOf p = masksIn (p .sites) (p .letters) (min (p .count) capacity)
 
+-- the bits that it turns over
 unfoldable pub flipOf : Items → ℕ
 flipOf p = masksOf p % 2 ^ 32
 
+-- the bits that give a sign
 unfoldable pub signOf : Items → ℕ
 signOf p = masksOf p / 2 ^ 32
