@@ -5,6 +5,7 @@ pub mod EntryLaws
 pub mod SortLaws
 pub mod RunLaws
 pub mod PartLaws
+pub mod EndLaws
 pub mod NeighbourLaws
 pub mod ArrayLaws
 pub mod DeliveryLaws

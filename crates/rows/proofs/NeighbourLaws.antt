@@ -9,8 +9,8 @@ use lib.Dec.{eqb}
 use lib.ListN.{length}
 use borrow.Author.Tests.{lt-ltb, le-ltb, eq-eqb, ne-eqb, eqb-true, eqb-false}
 use Rattle.rows.specs.Placing.{placed, placeAll, rowOf}
-use Rattle.rows.specs.Sorting.{inserted, sortedOnto, sorted, merged, addedFrom, neighboursAdded}
-use Rattle.rows.proofs.SortLaws.{Rising, by-order, inserted-here, inserted-past, inserted-none, rising-inserted, length-sorted, sorted-rising, merged-sorted}
+use Rattle.rows.specs.Sorting.{Rising, inserted, sortedOnto, sorted, merged, addedFrom, neighboursAdded}
+use Rattle.rows.proofs.SortLaws.{by-order, inserted-here, inserted-past, inserted-none, rising-inserted, length-sorted, sorted-rising, merged-sorted}
 
 -- the column of an entry
 abbrev pub columnOf : {N : Type 0} → ℕ × N → ℕ
