@@ -6,6 +6,7 @@ pub mod SortLaws
 pub mod RunLaws
 pub mod PartLaws
 pub mod EndLaws
+pub mod ShortLaws
 pub mod NeighbourLaws
 pub mod ArrayLaws
 pub mod DeliveryLaws
