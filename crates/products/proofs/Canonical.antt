@@ -12,14 +12,13 @@ use native.Mathlib.Omega.{arith}
 use lib.ListN.{length, take, length-map}
 use lib.Seq.{take-suc, length-take-le, getD-take, ext-getD}
 use borrow.Author.Tests.{eq-eqb, ne-eqb}
-use Rattle.letters.specs.Tests.{every}
 use Rattle.letters.proofs.TestLaws.{bool-ext, every-intro}
 use Rattle.products.specs.Lists.{at, support, padded, larger}
 use Rattle.products.specs.Record.{capacity, highestSite, placeValid, valid, lookup, letterAt, reach, recordOf, sameItems}
 use Rattle.products.specs.Answers.{emptyProduct}
 use Rattle.products.specs.declared.items.Items.{Items}
 use Rattle.products.proofs.ListLaws.{below-cases, support-in, support-ext, map-support-ext, support-above, length-support, supported, support-place, length-padded, padded-in, padded-out, padded-take, getD-map, larger-left, larger-right}
-use Rattle.products.proofs.RecordLaws.{place-in, place-out, all-valid, places-decide, valid-shape, valid-at, valid-past, ascending, lookup-absent, lookup-here, lookup-before, lookup-ext, letter-here, letter-beyond, site-below-reach}
+use Rattle.products.proofs.RecordLaws.{place-in, place-out, all-valid, valid-shape, valid-at, valid-past, ascending, lookup-absent, lookup-here, lookup-before, lookup-ext, letter-here, letter-beyond, site-below-reach}
 use Rattle.products.proofs.SameLaws.{same-self, same-equal}
 
 -- ---- the record of a lettering: its span, and letterings that agree
@@ -200,14 +199,10 @@ none-held : (p : Items) → valid p ≡ true → p .count ≡ 0 → p ≡ emptyP
 unfolding emptyProduct recordOf support
 none-held p v e = sym (canonical p v) ∙ ap (recordOf (letterAt p)) (none-reached p e)
 
--- so zeros in every place say it
-pub empty-told : (p : Items) → length (p .sites) ≡ capacity → length (p .letters) ≡ capacity → p .count ≡ 0
-    → every capacity (placeValid 0 (p .sites) (p .letters)) ≡ sameItems p emptyProduct
+-- so a record without letters is that of the empty product where number 0 lets it pass
+pub empty-told : (p : Items) → p .count ≡ 0 → valid p ≡ sameItems p emptyProduct
 unfolding emptyProduct
-empty-told p a b e =
-    let told : valid p ≡ every capacity (placeValid 0 (p .sites) (p .letters)) =
-    places-decide p a b (omega arith) ∙ ap (λ c. every capacity (placeValid c (p .sites) (p .letters))) e in
-    sym told
-    ∙ bool-ext (valid p) (sameItems p emptyProduct)
+empty-told p e =
+    bool-ext (valid p) (sameItems p emptyProduct)
     (λ v. subst (λ q. sameItems p q ≡ true) (none-held p v e) (same-self p))
     (λ t. subst (λ q. valid q ≡ true) (sym (same-equal p emptyProduct t)) (record-valid (λ s. 0) 0 (λ s l. omega arith) (omega arith) (omega (arith, length-support (λ s. 0) 0))))

@@ -2,7 +2,7 @@ pub mod ListLaws
 pub mod RecordLaws
 pub mod SamePlaces
 pub mod SameLaws
-pub mod NumberLaws
+pub mod JudgedLaws
 pub mod Canonical
 pub mod Cursor
 pub mod PushLaws

@@ -33,16 +33,6 @@ pub place-out : (count : ℕ) (sites letters : List ℕ) (i : ℕ) → count ≤
 unfolding placeValid
 place-out count sites letters i l a b = rw (le-ltb i count l, a, b)
 
--- the last test of a place below the count, and of one past it
-pub place-last : (count : ℕ) (sites letters : List ℕ) (i : ℕ) → i < count → at sites i ≤ highestSite → 1 ≤ at letters i → at letters i ≤ 3 → 1 ≤ i → ltb (at sites (i - 1)) (at sites i) ≡ placeValid count sites letters i
-unfolding placeValid
-place-last count sites letters i a b c d e =
-    rw (lt-ltb i count a, le-leb (at sites i) highestSite b, le-leb 1 (at letters i) c, le-leb (at letters i) 3 d, le-ltb i 1 e)
-
-pub place-past : (count : ℕ) (sites letters : List ℕ) (i : ℕ) → count ≤ i → at sites i ≤ 0 → ltb (at letters i) 1 ≡ placeValid count sites letters i
-unfolding placeValid
-place-past count sites letters i a b = rw (le-ltb i count a, le-leb (at sites i) 0 b)
-
 -- what a valid place below the count has
 pub record Place (sites letters : List ℕ) (i : ℕ) : Type 0 where
   pub site-most : at sites i ≤ highestSite

@@ -1,6 +1,6 @@
 -- The record of a product: which records are valid, which letters they have, and the record of given letters.
 -- Document 01, `Forms that the Rust can't keep` and number 0.
-use Prim.Native.Nat.{ℕ, zero, suc, _+_, _-_, _*_, _%_, _^_, min}
+use Prim.Native.Nat.{ℕ, zero, suc, _-_}
 use mathlib.Core.List.{List, map}
 use mathlib.Core.Bool.{Bool, true, _&&_, cond}
 use lib.Dec.{ltb, leb, eqb}
@@ -60,11 +60,3 @@ update f s a t = cond (eqb t s) a (f t)
 -- two records are the same
 unfoldable pub sameItems : Items → Items → Bool
 sameItems p q = eqb (p .count) (q .count) && (sameList (p .sites) (q .sites) && sameList (p .letters) (q .letters))
-
--- a number that equal records share: the letters of the first n places as digits to base 4, each at its site's place, and their sum in 64 bits
-unfoldable pub letteringSum : List ℕ → List ℕ → ℕ → ℕ
-letteringSum sites letters zero = 0
-letteringSum sites letters (suc n) = letteringSum sites letters n + at letters n % 4 * 4 ^ (at sites n % capacity)
-
-unfoldable pub letteringNumber : Items → ℕ
-letteringNumber p = letteringSum (p .sites) (p .letters) (min (p .count) capacity) % 2 ^ 64

@@ -1,9 +1,11 @@
 // The record of a product: a count with two flat arrays, sites ascending, zeros past the count.
 ghost use mathlib.Core.Path.{_≡_};
-ghost use mathlib.Core.Bool.{true};
-ghost use Prim.Native.Nat.{_*_, _%_, _^_, _<_, _≤_, min};
+ghost use mathlib.Core.Bool.{true, _&&_, cond};
+ghost use Prim.Native.Nat.{_*_, _%_, _^_, _≤_, min};
+ghost use lib.Dec.{leb};
 ghost use Rattle.letters.specs.Tests.{every};
-ghost use Rattle.products.specs.Record.{placeValid, valid, letterAt, sameItems, letteringNumber};
+ghost use Rattle.products.specs.Record.{placeValid, valid, letterAt, sameItems};
+ghost use Rattle.products.specs.Masks.{letterBits, masksOf};
 ghost use Rattle.products.specs.Answers.{emptyProduct};
 use refusal::Outcome;
 use refusal::Refusal;
@@ -72,66 +74,95 @@ pub fn empty() -> Items
     }
 }
 
-// Whether place i is as a valid record has it.
-fn place_valid(count: usize, sites: [Site; 31], letters: [u8; 31], i: usize) -> bool
-    requires { ⌜ i < 31 ⌝ }
-    ensures { λ r. ⌜ r ≡ placeValid count sites letters i ⌝ }
+// Whether a site and its letter may stand at the next place, where `low` is the lowest site allowed.
+fn fits_next(low: u8, site: Site, letter: u8) -> bool
+    ensures { λ r. ⌜ r ≡ (leb site 30 && leb 1 letter && leb letter 3 && leb low site) ⌝ }
 {
-    let site = sites[i];
-    let letter = letters[i];
-    if i < count {
-        if HIGHEST_SITE < site {
-            return false;
-        }
-        if letter < 1 {
-            return false;
-        }
-        if 3 < letter {
-            return false;
-        }
-        if i < 1 {
-            return true;
-        }
-        return sites[i - 1] < site;
-    }
-    if 0 < site {
+    if HIGHEST_SITE < site {
         return false;
     }
-    letter < 1
+    if letter < 1 {
+        return false;
+    }
+    if 3 < letter {
+        return false;
+    }
+    low <= site
 }
 
 // Whether zeros stand past the count, of a record that is valid below it. No way out of the loop before its end: it is quicker so.
-fn zeros_past(count: usize, sites: [Site; 31], letters: [u8; 31]) -> bool
-    requires { ⌜ (count ≤ 31) × (every count (placeValid count sites letters) ≡ true) ⌝ }
-    ensures { λ r. ⌜ r ≡ every 31 (placeValid count sites letters) ⌝ }
+fn zeros_past(p: Items) -> bool
+    requires { ⌜ (p .count ≤ 31) × (every (p .count) (placeValid (p .count) (p .sites) (p .letters)) ≡ true) ⌝ }
+    ensures { λ r. ⌜ r ≡ valid p ⌝ }
 {
     let mut rest: u8 = 0;
-    let mut i = count;
+    let mut i = p.count;
     while i < CAPACITY {
-        rest = rest | sites[i] | letters[i];
+        rest = rest | p.sites[i] | p.letters[i];
         i += 1;
     }
     rest == 0
+}
+
+// The bits of the letters at site 0: X turns its bit over, Z gives it a sign, Y does both.
+const LETTER_BITS: [u64; 4] = [0, 1, 4294967297, 4294967296];
+
+// The bits of a letter at its site.
+fn bits_at(site: Site, letter: u8) -> u64
+    ensures { λ r. ⌜ r ≡ letterBits (letter % 4) * 2 ^ (site % 32) ⌝ }
+{
+    let k = (letter % 4) as usize;
+    LETTER_BITS[k] << ((site % 32) as u32)
+}
+
+// What number 0 says of a record, and the masks of one that it lets pass.
+pub struct Verdict {
+    pub valid: bool,
+    pub masks: u64,
+}
+
+// The verdict on a record, in one pass over its places.
+pub fn judged(p: Items) -> Verdict
+    ensures { λ r. ⌜ (r .valid ≡ valid p) × (r .masks ≡ cond (valid p) (masksOf p) 0) ⌝ }
+{
+    let count = p.count;
+    if CAPACITY < count {
+        return Verdict {
+            valid: false,
+            masks: 0,
+        };
+    }
+    let mut low: u8 = 0;
+    let mut masks: u64 = 0;
+    let mut i: usize = 0;
+    while i < count {
+        let site = p.sites[i];
+        let letter = p.letters[i];
+        if !fits_next(low, site, letter) {
+            return Verdict {
+                valid: false,
+                masks: 0,
+            };
+        }
+        masks = masks ^ bits_at(site, letter);
+        low = site + 1;
+        i += 1;
+    }
+    if !zeros_past(p) {
+        return Verdict {
+            valid: false,
+            masks: 0,
+        };
+    }
+    Verdict { valid: true, masks }
 }
 
 // Whether number 0 lets the record pass.
 pub fn is_valid(p: Items) -> bool
     ensures { λ r. ⌜ r ≡ valid p ⌝ }
 {
-    let count = p.count;
-    let sites = p.sites;
-    let letters = p.letters;
-    if CAPACITY < count {
-        return false;
-    }
-    let mut i: usize = 0;
-    while i < count {
-        if !place_valid(count, sites, letters, i) {
-            return false;
-        }
-        i += 1;
-    }
-    zeros_past(count, sites, letters)
+    let v = judged(p);
+    v.valid
 }
 
 // The letter on a site, 0 on a free one.
@@ -140,12 +171,10 @@ pub(crate) fn letter_at(p: Items, site: Site) -> u8
     ensures { λ r. ⌜ r ≡ letterAt p site ⌝ }
 {
     let count = p.count;
-    let sites = p.sites;
-    let letters = p.letters;
     let mut i: usize = 0;
     while i < count {
-        if sites[i] == site {
-            return letters[i];
+        if p.sites[i] == site {
+            return p.letters[i];
         }
         i += 1;
     }
@@ -176,20 +205,10 @@ pub fn same(p: Items, q: Items) -> bool
 pub fn is_empty(p: Items) -> bool
     ensures { λ r. ⌜ r ≡ sameItems p emptyProduct ⌝ }
 {
-    let sites = p.sites;
-    let letters = p.letters;
     if p.count != 0 {
         return false;
     }
-    zeros_past(0, sites, letters)
-}
-
-// A letter at its site's place to base 4.
-fn digit_at(site: Site, letter: u8) -> u64
-    ensures { λ r. ⌜ r ≡ letter % 4 * 4 ^ (site % 31) ⌝ }
-{
-    let place = 2 * ((site % 31) as u32);
-    ((letter % 4) as u64) << place
+    zeros_past(p)
 }
 
 // How many places a record with such a count has letters on: at most the capacity.
@@ -197,20 +216,4 @@ pub(crate) fn lettered(count: usize) -> usize
     ensures { λ r. ⌜ r ≡ min count 31 ⌝ }
 {
     if count < CAPACITY { count } else { CAPACITY }
-}
-
-// A number that equal records share: the letters as digits to base 4, each at its site's place.
-pub fn lettering_number(p: Items) -> u64
-    ensures { λ r. ⌜ r ≡ letteringNumber p ⌝ }
-{
-    let count = lettered(p.count);
-    let sites = p.sites;
-    let letters = p.letters;
-    let mut x: u64 = 0;
-    let mut i: usize = 0;
-    while i < count {
-        x = std::num::wrapping_add_u64(x, digit_at(sites[i], letters[i]));
-        i += 1;
-    }
-    x
 }

@@ -1,9 +1,8 @@
 -- `items::is_empty`: a count other than 0 tells, or the zeros do.
 -- Assumes nothing.
-use mathlib.Core.Path.{refl, _∙_}
+use mathlib.Core.Path.{_∙_}
 use native.Mathlib.Omega.{arith}
-use borrow.Author.Needs.{needs}
-use Rattle.letters.specs.Tests.{every}
+use Rattle.letters.proofs.TestLaws.{every-intro}
 use Rattle.products.specs.Lists.{support}
 use Rattle.products.specs.Record.{recordOf}
 use Rattle.products.specs.Answers.{emptyProduct}
@@ -17,11 +16,10 @@ unfolding emptyProduct recordOf support
 returns c = counts-differ _ _ (c .if1 .taken)
 
 zeros-past-requires : tie.Need-zeros-past-requires
-unfolding every
-zeros-past-requires c κs = (omega arith, refl)
+zeros-past-requires c κs = (omega arith, every-intro _ _ (λ i l. absurd (omega arith)))
 
 returns-2 : tie.Need-returns-2
-returns-2 c = c .zeros-past .ensures ∙ empty-told _ (search needs) (search needs) (c .before .if1 .left)
+returns-2 c = c .zeros-past .ensures ∙ empty-told _ (c .before .if1 .left)
 
 pub is-empty-spec : {M : Type 1} → statement M
 is-empty-spec = tie.close (tie.spec returns zeros-past-requires returns-2)

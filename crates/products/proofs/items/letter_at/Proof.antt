@@ -7,22 +7,22 @@ use Rattle.products.proofs.items.letter_at.Statement.{statement}
 use Rattle.products.proofs.items.letter_at.Tie as tie
 
 abbrev Inv-loop : tie.InvT-loop
-Inv-loop site count sites letters i₀ i = Passed sites count site i
+Inv-loop site p count i₀ i = Passed (p .sites) count site i
 
 abbrev μ-loop : tie.MeasureT-loop
-μ-loop site count sites letters i₀ i = count - i
+μ-loop site p count i₀ i = count - i
 
 loop-holds : tie.Need-loop-holds Inv-loop μ-loop
 loop-holds c = passed-none _ _ _
 
-array-read-if1 : tie.Need-array-read-if1 Inv-loop μ-loop
-array-read-if1 c = place-fits _ _ (c .before .before .before .before .pre) (c .loop-test .taken)
+element-copy-out-if1 : tie.Need-element-copy-out-if1 Inv-loop μ-loop
+element-copy-out-if1 c = place-fits _ _ (c .before .before .pre) (c .loop-test .taken)
 
-array-read-result : tie.Need-array-read-result Inv-loop μ-loop
-array-read-result c = place-fits _ _ (c .before .before .before .before .before .pre) (c .before .loop-test .taken)
+element-copy-out-result : tie.Need-element-copy-out-result Inv-loop μ-loop
+element-copy-out-result c = place-fits _ _ (c .before .before .before .before .pre) (c .before .before .loop-test .taken)
 
 returns : tie.Need-returns Inv-loop μ-loop
-returns c = passed-found _ _ _ (c .before .before .before .before .before .pre) (c .before .loop-test .taken) (c .if1 .taken)
+returns c = passed-found _ _ _ (c .before .before .before .before .before .pre) (c .before .before .before .loop-test .taken) (c .before .if1 .taken)
 
 add-i : tie.Need-add-i Inv-loop μ-loop
 add-i c = search needs
@@ -31,7 +31,7 @@ loop-less : tie.Need-loop-less Inv-loop μ-loop
 loop-less c = search needs
 
 loop-again : tie.Need-loop-again Inv-loop μ-loop
-loop-again c = passed-more (c .before .before .loop .inv) (c .before .loop-test .taken) (c .if1 .left)
+loop-again c = passed-more (c .before .before .before .loop .inv) (c .before .before .loop-test .taken) (c .if1 .left)
 
 returns-2 : tie.Need-returns-2 Inv-loop μ-loop
 returns-2 c = passed-done _ (c .before .loop .inv) (c .loop-test .left)
@@ -43,8 +43,8 @@ letter-at-spec =
     Inv-loop
     μ-loop
     loop-holds
-    array-read-if1
-    array-read-result
+    element-copy-out-if1
+    element-copy-out-result
     returns
     add-i
     loop-less
