@@ -5,10 +5,10 @@ ghost use Prim.Native.Nat.{_+_, _<_, _≤_};
 ghost use lib.Ieee.{eq};
 ghost use lib.ListN.{getD, drop};
 ghost use Rattle.complex.specs.Complex.{plusZero, partInRange};
-ghost use Rattle.products.specs.Record.{valid};
 ghost use Rattle.terms.specs.Keyed.{each};
-ghost use Rattle.operators.specs.Reals.{blank, heldBy, goodCoefficient, goodTerm, isBlank};
-use crate::numbers::is_new;
+ghost use Rattle.operators.specs.Reals.{blank, heldBy, goodTerm, isBlank};
+use crate::numbers::is_new_marked;
+use crate::numbers::mark_of;
 use crate::pauli_hamiltonian::PauliHamiltonian;
 use crate::pauli_hamiltonian::RealTerm;
 use crate::pauli_hamiltonian::find_from;
@@ -66,17 +66,6 @@ fn good_terms(s: PauliHamiltonian) -> bool
     true
 }
 
-// Whether a term is as a Hamiltonian holds it, but for the keys of the others.
-fn good_alone(t: RealTerm) -> bool
-    ensures { λ r. ⌜ r ≡ (valid (t .items) && goodCoefficient (t .coefficient)) ⌝ }
-{
-    let p = t.items;
-    if products::items::is_valid(p) {
-        return good_coefficient(t.coefficient);
-    }
-    false
-}
-
 // The same answer by the numbers of the keys: terms with different numbers have different keys, and only where a number repeats
 // are the keys compared.
 pub(crate) fn all_good(s: PauliHamiltonian) -> bool
@@ -85,18 +74,25 @@ pub(crate) fn all_good(s: PauliHamiltonian) -> bool
 {
     let n = s.count;
     let mut numbers = [0u64; 64];
+    let mut marks = [0u8; 256];
     let mut i: usize = 0;
     while i < n {
         let t = s.terms[i];
         let p = t.items;
-        if !good_alone(t) {
+        let v = products::items::judged(p);
+        if !v.valid {
             return false;
         }
-        let x = products::items::lettering_number(p);
-        if !is_new(&numbers, i, x) {
+        if !good_coefficient(t.coefficient) {
+            return false;
+        }
+        let x = v.masks;
+        if !is_new_marked(&marks, &numbers, i, x) {
             return good_terms(s);
         }
         numbers[i] = x;
+        let at = mark_of(x);
+        marks[at] = 1;
         i += 1;
     }
     true

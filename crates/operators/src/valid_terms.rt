@@ -4,10 +4,10 @@ ghost use mathlib.Core.Bool.{not, _&&_, _||_};
 ghost use Prim.Native.Nat.{_+_, _<_, _≤_};
 ghost use lib.ListN.{getD, drop};
 ghost use Rattle.complex.specs.Complex.{isZero, inRange};
-ghost use Rattle.products.specs.Record.{valid};
 ghost use Rattle.terms.specs.Keyed.{each};
-ghost use Rattle.operators.specs.Complexes.{blank, heldBy, goodCoefficient, goodTerm, isBlank};
-use crate::numbers::is_new;
+ghost use Rattle.operators.specs.Complexes.{blank, heldBy, goodTerm, isBlank};
+use crate::numbers::is_new_marked;
+use crate::numbers::mark_of;
 use crate::term_set::Term;
 use crate::term_set::TermSet;
 use crate::term_set::find_from;
@@ -73,18 +73,6 @@ fn good_terms(zeros: bool, s: TermSet) -> bool
     true
 }
 
-// Whether a term is as a valid set holds it, but for the keys of the others.
-fn good_alone(zeros: bool, t: Term) -> bool
-    ensures { λ r. ⌜ r ≡ (valid (t .items) && goodCoefficient zeros (t .coefficient)) ⌝ }
-{
-    let p = t.items;
-    let c = t.coefficient;
-    if products::items::is_valid(p) {
-        return good_coefficient(zeros, c);
-    }
-    false
-}
-
 // The same answer by the numbers of the keys: terms with different numbers have different keys, and only where a number repeats
 // are the keys compared.
 pub(crate) fn all_good(zeros: bool, s: TermSet) -> bool
@@ -93,18 +81,26 @@ pub(crate) fn all_good(zeros: bool, s: TermSet) -> bool
 {
     let n = s.count;
     let mut numbers = [0u64; 64];
+    let mut marks = [0u8; 256];
     let mut i: usize = 0;
     while i < n {
         let t = s.terms[i];
         let p = t.items;
-        if !good_alone(zeros, t) {
+        let c = t.coefficient;
+        let v = products::items::judged(p);
+        if !v.valid {
             return false;
         }
-        let x = products::items::lettering_number(p);
-        if !is_new(&numbers, i, x) {
+        if !good_coefficient(zeros, c) {
+            return false;
+        }
+        let x = v.masks;
+        if !is_new_marked(&marks, &numbers, i, x) {
             return good_terms(zeros, s);
         }
         numbers[i] = x;
+        let at = mark_of(x);
+        marks[at] = 1;
         i += 1;
     }
     true

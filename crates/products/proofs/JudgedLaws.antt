@@ -108,3 +108,7 @@ refused-verdict p e = (e, rw (sym e))
 
 pub passed-verdict : (p : Items) {m : ℕ} → true ≡ valid p → m ≡ masksOf p → (true ≡ valid p) × (m ≡ cond (valid p) (masksOf p) 0)
 passed-verdict p e f = (e, rw (sym e) f)
+
+-- the masks of one that it lets pass
+pub verdict-masks : (p : Items) {m : ℕ} → m ≡ cond (valid p) (masksOf p) 0 → valid p ≡ true → m ≡ masksOf p
+verdict-masks p e v = e ∙ rw v

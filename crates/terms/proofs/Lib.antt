@@ -15,3 +15,4 @@ pub mod AnswerLaws
 pub mod ChainLaws
 pub mod ValidSetLaws
 pub mod NumberedLaws
+pub mod MarkLaws

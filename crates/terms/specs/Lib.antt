@@ -6,3 +6,4 @@ pub mod Chains
 pub mod Gaussian
 pub mod Runs
 pub mod Entries
+pub mod Marks

@@ -1,5 +1,5 @@
--- `valid_reals::all_good`: the terms below i are good and have different numbers, which stand in their places (`Numbered`); the loop ends at the
--- first term that fails alone, with none left, or where a number repeats with the answer of `good_terms`.
+-- `valid_reals::all_good`: the terms below i are good and have different numbers, which stand in their places (`Numbered`) and are marked (`Marked`);
+-- the loop ends at the first term that fails alone, with none left, or where a number repeats with the answer of `good_terms`.
 -- Assumes nothing.
 use Prim.Native.Nat.{ℕ, _-_}
 use mathlib.Core.Path.{_≡_, refl, _∙_}
@@ -7,28 +7,32 @@ use native.Mathlib.Omega.{arith}
 use lib.ListN.{length, length-map, length-set, getD}
 use lib.Seq.{getD-set-same}
 use borrow.Author.Needs.{needs}
-use Rattle.products.specs.Record.{letteringNumber}
+use Rattle.products.specs.Masks.{masksOf}
 use Rattle.products.proofs.SameLaws.{same-equal}
-use Rattle.terms.proofs.BranchLaws.{passed, failed}
+use Rattle.products.proofs.JudgedLaws.{verdict-masks}
+use Rattle.terms.specs.Marks.{markOf, Marked}
+use Rattle.terms.proofs.BranchLaws.{passed, failed-first, failed-second, passed-both}
 use Rattle.terms.proofs.NumberedLaws.{Numbers, oneNumber, stored-before, Numbered, numbered-none, numbered-failed, numbered-more, numbered-done}
+use Rattle.terms.proofs.MarkLaws.{marked-none, marked-more}
 use Rattle.operators.specs.Reals.{realTerms}
 use Rattle.operators.proofs.RealValidLaws.{validHamiltonians}
 use Rattle.operators.proofs.valid_reals.all_good.Statement.{statement}
 use Rattle.operators.proofs.valid_reals.all_good.Tie as tie
 
 abbrev numbers-of : Numbers realTerms ℕ
-numbers-of = oneNumber realTerms same-equal letteringNumber
+numbers-of = oneNumber realTerms same-equal masksOf
 
 abbrev Inv-loop : tie.InvT-loop
-Inv-loop s n numbers₀ i₀ numbers i = Numbered validHamiltonians numbers-of s (λ j. getD numbers j 0) i × (length numbers ≡ 64)
+Inv-loop s n numbers₀ marks₀ i₀ numbers marks i =
+    Numbered validHamiltonians numbers-of s (λ j. getD numbers j 0) i × (Marked markOf marks (λ j. getD numbers j 0) i × ((length numbers ≡ 64) × (length marks ≡ 256)))
 
 abbrev μ-loop : tie.MeasureT-loop
-μ-loop s n numbers₀ i₀ numbers i = n - i
+μ-loop s n numbers₀ marks₀ i₀ numbers marks i = n - i
 
 loop-holds : tie.Need-loop-holds Inv-loop μ-loop
 loop-holds c =
     let whole : length (c .args .t1 .terms) ≡ 64 = simp length-map at (c .good .0 .1 .1 .1 .0 .1 .0 .1) in
-    (numbered-none validHamiltonians numbers-of whole (c .pre), refl)
+    (numbered-none validHamiltonians numbers-of whole (c .pre), (marked-none, (refl, refl)))
 
 mul-t : tie.Need-mul-t Inv-loop μ-loop
 mul-t c = omega arith
@@ -36,31 +40,47 @@ mul-t c = omega arith
 element-copy-out-t : tie.Need-element-copy-out-t Inv-loop μ-loop
 element-copy-out-t c = omega arith
 
-good-alone-requires : tie.Need-good-alone-requires Inv-loop μ-loop
-good-alone-requires c κs = search needs
+judged-requires : tie.Need-judged-requires Inv-loop μ-loop
+judged-requires c κs = search needs
 
 returns : tie.Need-returns Inv-loop μ-loop
 returns c =
-    let l = c .before .before .before .before .before in
-    numbered-failed validHamiltonians numbers-of _ (l .loop .inv .0) (omega arith) (failed (c .before .good-alone .ensures) (c .if1 .taken))
+    let v = c .before .before in
+    let l = v .before .before .before .before in
+    numbered-failed validHamiltonians numbers-of _ (l .loop .inv .0) (omega arith) (failed-first _ (v .judged .ensures .0) (c .if1 .taken))
 
-lettering-number-requires : tie.Need-lettering-number-requires Inv-loop μ-loop
-lettering-number-requires c κs = search needs
+good-coefficient-requires : tie.Need-good-coefficient-requires Inv-loop μ-loop
+good-coefficient-requires c κs = search needs
 
-is-new-requires : tie.Need-is-new-requires Inv-loop μ-loop
-is-new-requires c κs = omega arith
+returns-2 : tie.Need-returns-2 Inv-loop μ-loop
+returns-2 c =
+    let g = c .before in
+    let v = g .before .before .before in
+    let l = v .before .before .before .before in
+    numbered-failed validHamiltonians numbers-of _ (l .loop .inv .0) (omega arith) (failed-second (v .judged .ensures .0) (g .good-coefficient .ensures) (c .if2 .taken))
+
+is-new-marked-requires : tie.Need-is-new-marked-requires Inv-loop μ-loop
+is-new-marked-requires c κs =
+    let l = c .before .before .before .before .before .before .before .before .before .before in
+    (omega arith, l .loop .inv .1 .0)
 
 good-terms-requires : tie.Need-good-terms-requires Inv-loop μ-loop
 good-terms-requires c κs = search needs
 
-returns-2 : tie.Need-returns-2 Inv-loop μ-loop
-returns-2 c = c .good-terms .ensures
+returns-3 : tie.Need-returns-3 Inv-loop μ-loop
+returns-3 c = c .good-terms .ensures
 
 mul-numbers : tie.Need-mul-numbers Inv-loop μ-loop
 mul-numbers c = omega arith
 
 array-write-numbers : tie.Need-array-write-numbers Inv-loop μ-loop
 array-write-numbers c = omega arith
+
+mark-of-requires : tie.Need-mark-of-requires Inv-loop μ-loop
+mark-of-requires c κs = search needs
+
+array-write-marks : tie.Need-array-write-marks Inv-loop μ-loop
+array-write-marks c = search needs
 
 add-i : tie.Need-add-i Inv-loop μ-loop
 add-i c = omega arith
@@ -70,22 +90,31 @@ loop-less c = omega arith
 
 loop-again : tie.Need-loop-again Inv-loop μ-loop
 loop-again c =
-    let n = c .before .before .before in
-    let l = n .before .before .before .before .before .before in
+    let m = c .before .before in
+    let e = m .before .before .before in
+    let g = e .before in
+    let v = g .before .before .before in
+    let l = v .before .before .before .before in
     let numbers = l .loop .numbers in
     let i = l .loop .i in
-    let x = n .lettering-number .result in (
+    let x = v .judged .result .masks in
+    let before = stored-before numbers i x in
+    let last = getD-set-same numbers i x 0 (search needs) in
+    let key = passed (v .judged .ensures .0) (g .before .if1 .left) in (
       numbered-more validHamiltonians numbers-of _ (l .loop .inv .0) (omega arith) _
-          (passed (n .before .before .good-alone .ensures) (n .before .if1 .left))
-          (n .lettering-number .ensures)
-          (passed (c .before .is-new .ensures) (c .if2 .left))
-          (stored-before numbers i x)
-          (getD-set-same numbers i x 0 (search needs)),
-      length-set numbers i x ∙ l .loop .inv .1,
+          (passed-both (v .judged .ensures .0) (g .before .if1 .left) (g .good-coefficient .ensures) (e .if2 .left))
+          (verdict-masks _ (v .judged .ensures .1) key)
+          (passed (m .is-new-marked .ensures) (c .before .if3 .left))
+          before
+          last,
+      (
+        marked-more (l .loop .inv .1 .0) _ (c .mark-of .ensures) (search needs) before last,
+        (length-set numbers i x ∙ l .loop .inv .1 .1 .0, length-set (l .loop .marks) (c .mark-of .result) 1 ∙ l .loop .inv .1 .1 .1),
+      ),
     )
 
-returns-3 : tie.Need-returns-3 Inv-loop μ-loop
-returns-3 c = numbered-done validHamiltonians numbers-of (c .before .loop .inv .0) (c .loop-test .left)
+returns-4 : tie.Need-returns-4 Inv-loop μ-loop
+returns-4 c = numbered-done validHamiltonians numbers-of (c .before .loop .inv .0) (c .loop-test .left)
 
 pub all-good-spec : {M : Type 1} → statement M
 all-good-spec =
@@ -96,15 +125,18 @@ all-good-spec =
     loop-holds
     mul-t
     element-copy-out-t
-    good-alone-requires
+    judged-requires
     returns
-    lettering-number-requires
-    is-new-requires
-    good-terms-requires
+    good-coefficient-requires
     returns-2
+    is-new-marked-requires
+    good-terms-requires
+    returns-3
     mul-numbers
     array-write-numbers
+    mark-of-requires
+    array-write-marks
     add-i
     loop-less
     loop-again
-    returns-3)
+    returns-4)
