@@ -2,6 +2,7 @@
 mod chain;
 pub mod full;
 pub mod noise_set;
+mod numbers;
 pub mod pauli_noise_operator;
 pub mod remap;
 mod valid_pairs;

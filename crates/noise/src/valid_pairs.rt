@@ -2,10 +2,10 @@
 ghost use mathlib.Core.Path.{_≡_};
 ghost use mathlib.Core.Bool.{not, _&&_};
 ghost use Prim.Native.Nat.{_+_, _<_, _≤_};
-ghost use lib.Dec.{eqb};
 ghost use lib.ListN.{getD, drop};
 ghost use Rattle.complex.specs.Complex.{isZero, inRange};
-ghost use Rattle.letters.specs.Tests.{every};
+ghost use Rattle.products.specs.Record.{valid};
+ghost use Rattle.products.specs.Verdicts.{judgedMasks};
 ghost use Rattle.terms.specs.Keyed.{each};
 ghost use Rattle.noise.specs.Pairs.{blank, heldBy, goodKey, goodCoefficient, goodTerm, isBlank};
 use crate::noise_set::NoiseSet;
@@ -13,7 +13,10 @@ use crate::noise_set::NoiseTerm;
 use crate::noise_set::empty_side;
 use crate::noise_set::find_from;
 use crate::noise_set::valid_key;
+use crate::numbers::is_new_marked;
+use crate::numbers::mark_of;
 use complex::Complex;
+use products::items::Items;
 
 // Whether a record is the zero record.
 fn is_blank(t: NoiseTerm) -> bool
@@ -81,14 +84,15 @@ fn good_terms(s: NoiseSet) -> bool
     true
 }
 
-// Whether a term is as a valid set holds it, but for the keys of the others.
-fn good_alone(t: NoiseTerm) -> bool
-    ensures { λ r. ⌜ r ≡ (goodKey (t .left, t .right) && goodCoefficient (t .coefficient)) ⌝ }
+// Whether a term is as a valid set holds it, but for the keys of the others, where number 0 of its products is told.
+fn good_parts(left: bool, right: bool, p: Items, q: Items, c: Complex) -> bool
+    requires { ⌜ (left ≡ valid p) × (right ≡ valid q) ⌝ }
+    ensures { λ r. ⌜ r ≡ (goodKey (p, q) && goodCoefficient c) ⌝ }
 {
-    let p = t.left;
-    let q = t.right;
-    let c = t.coefficient;
-    if !valid_key(p, q) {
+    if !left {
+        return false;
+    }
+    if !right {
         return false;
     }
     if empty_side(p, q) {
@@ -97,21 +101,27 @@ fn good_alone(t: NoiseTerm) -> bool
     good_coefficient(c)
 }
 
-// Whether none of the first n places of both arrays has two numbers.
-fn is_new(lefts: &[u64; 64], rights: &[u64; 64], n: usize, left: u64, right: u64) -> bool
-    requires { ⌜ n ≤ 64 ⌝ }
-    ensures { λ r. ⌜ r ≡ every n (λ j. not (eqb (getD (now (lefts .entry)) j 0) left && eqb (getD (now (rights .entry)) j 0) right)) ⌝ }
+// Whether it is, and the numbers of its products: their masks, where number 0 lets them pass.
+struct PairVerdict {
+    good: bool,
+    left: u64,
+    right: u64,
+}
+
+fn judged_alone(t: NoiseTerm) -> PairVerdict
+    ensures { λ r. ⌜ (r .good ≡ (goodKey (t .left, t .right) && goodCoefficient (t .coefficient))) × ((r .left ≡ judgedMasks (t .left)) × (r .right ≡ judgedMasks (t .right))) ⌝ }
 {
-    let mut j: usize = 0;
-    while j < n {
-        if lefts[j] == left {
-            if rights[j] == right {
-                return false;
-            }
-        }
-        j += 1;
+    let p = t.left;
+    let q = t.right;
+    let c = t.coefficient;
+    let v = products::items::judged(p);
+    let w = products::items::judged(q);
+    let good = good_parts(v.valid, w.valid, p, q, c);
+    PairVerdict {
+        good,
+        left: v.masks,
+        right: w.masks,
     }
-    true
 }
 
 // The same answer by the numbers of the keys: terms with different numbers have different keys, and only where two numbers repeat
@@ -123,21 +133,21 @@ pub(crate) fn all_good(s: NoiseSet) -> bool
     let n = s.count;
     let mut lefts = [0u64; 64];
     let mut rights = [0u64; 64];
+    let mut marks = [0u8; 256];
     let mut i: usize = 0;
     while i < n {
         let t = s.terms[i];
-        let p = t.left;
-        let q = t.right;
-        if !good_alone(t) {
+        let v = judged_alone(t);
+        if !v.good {
             return false;
         }
-        let left = products::items::lettering_number(p);
-        let right = products::items::lettering_number(q);
-        if !is_new(&lefts, &rights, i, left, right) {
+        if !is_new_marked(&marks, &lefts, &rights, i, v.left, v.right) {
             return good_terms(s);
         }
-        lefts[i] = left;
-        rights[i] = right;
+        lefts[i] = v.left;
+        rights[i] = v.right;
+        let at = mark_of(v.left, v.right);
+        marks[at] = 1;
         i += 1;
     }
     true

@@ -17,6 +17,7 @@ use Rattle.letters.proofs.TestLaws.{and-left, every-more}
 use Rattle.products.specs.Lists.{at}
 use Rattle.products.specs.Record.{capacity, highestSite, placeValid, valid}
 use Rattle.products.specs.Masks.{letterBits, masksIn, masksOf}
+use Rattle.products.specs.Verdicts.{judgedMasks}
 use Rattle.products.specs.declared.items.Items.{Items}
 use Rattle.products.proofs.RecordLaws.{place-invalid, all-passed}
 
@@ -103,12 +104,8 @@ judging-masks {p} {i} j h = j .bits ∙ ap (masksIn (p .sites) (p .letters)) (le
 -- ---- the verdict
 
 -- number 0 refuses the record, or lets it pass
-pub refused-verdict : (p : Items) → false ≡ valid p → (false ≡ valid p) × (0 ≡ cond (valid p) (masksOf p) 0)
+pub refused-verdict : (p : Items) → false ≡ valid p → (false ≡ valid p) × (0 ≡ judgedMasks p)
 refused-verdict p e = (e, rw (sym e))
 
-pub passed-verdict : (p : Items) {m : ℕ} → true ≡ valid p → m ≡ masksOf p → (true ≡ valid p) × (m ≡ cond (valid p) (masksOf p) 0)
+pub passed-verdict : (p : Items) {m : ℕ} → true ≡ valid p → m ≡ masksOf p → (true ≡ valid p) × (m ≡ judgedMasks p)
 passed-verdict p e f = (e, rw (sym e) f)
-
--- the masks of one that it lets pass
-pub verdict-masks : (p : Items) {m : ℕ} → m ≡ cond (valid p) (masksOf p) 0 → valid p ≡ true → m ≡ masksOf p
-verdict-masks p e v = e ∙ rw v

@@ -1,6 +1,7 @@
 pub mod Lists
 pub mod Record
 pub mod Masks
+pub mod Verdicts
 pub mod Walks
 pub mod Answers
 pub mod Orders

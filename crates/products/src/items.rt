@@ -1,11 +1,12 @@
 // The record of a product: a count with two flat arrays, sites ascending, zeros past the count.
 ghost use mathlib.Core.Path.{_≡_};
-ghost use mathlib.Core.Bool.{true, _&&_, cond};
+ghost use mathlib.Core.Bool.{true, _&&_};
 ghost use Prim.Native.Nat.{_*_, _%_, _^_, _≤_, min};
 ghost use lib.Dec.{leb};
 ghost use Rattle.letters.specs.Tests.{every};
 ghost use Rattle.products.specs.Record.{placeValid, valid, letterAt, sameItems};
-ghost use Rattle.products.specs.Masks.{letterBits, masksOf};
+ghost use Rattle.products.specs.Masks.{letterBits};
+ghost use Rattle.products.specs.Verdicts.{judgedMasks};
 ghost use Rattle.products.specs.Answers.{emptyProduct};
 use refusal::Outcome;
 use refusal::Refusal;
@@ -123,7 +124,7 @@ pub struct Verdict {
 
 // The verdict on a record, in one pass over its places.
 pub fn judged(p: Items) -> Verdict
-    ensures { λ r. ⌜ (r .valid ≡ valid p) × (r .masks ≡ cond (valid p) (masksOf p) 0) ⌝ }
+    ensures { λ r. ⌜ (r .valid ≡ valid p) × (r .masks ≡ judgedMasks p) ⌝ }
 {
     let count = p.count;
     if CAPACITY < count {

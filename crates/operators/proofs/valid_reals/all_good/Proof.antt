@@ -7,9 +7,8 @@ use native.Mathlib.Omega.{arith}
 use lib.ListN.{length, length-map, length-set, getD}
 use lib.Seq.{getD-set-same}
 use borrow.Author.Needs.{needs}
-use Rattle.products.specs.Masks.{masksOf}
+use Rattle.products.specs.Verdicts.{judgedMasks}
 use Rattle.products.proofs.SameLaws.{same-equal}
-use Rattle.products.proofs.JudgedLaws.{verdict-masks}
 use Rattle.terms.specs.Marks.{markOf, Marked}
 use Rattle.terms.proofs.BranchLaws.{passed, failed-first, failed-second, passed-both}
 use Rattle.terms.proofs.NumberedLaws.{Numbers, oneNumber, stored-before, Numbered, numbered-none, numbered-failed, numbered-more, numbered-done}
@@ -20,7 +19,7 @@ use Rattle.operators.proofs.valid_reals.all_good.Statement.{statement}
 use Rattle.operators.proofs.valid_reals.all_good.Tie as tie
 
 abbrev numbers-of : Numbers realTerms ℕ
-numbers-of = oneNumber realTerms same-equal masksOf
+numbers-of = oneNumber realTerms same-equal judgedMasks
 
 abbrev Inv-loop : tie.InvT-loop
 Inv-loop s n numbers₀ marks₀ i₀ numbers marks i =
@@ -99,11 +98,10 @@ loop-again c =
     let i = l .loop .i in
     let x = v .judged .result .masks in
     let before = stored-before numbers i x in
-    let last = getD-set-same numbers i x 0 (search needs) in
-    let key = passed (v .judged .ensures .0) (g .before .if1 .left) in (
+    let last = getD-set-same numbers i x 0 (search needs) in (
       numbered-more validHamiltonians numbers-of _ (l .loop .inv .0) (omega arith) _
           (passed-both (v .judged .ensures .0) (g .before .if1 .left) (g .good-coefficient .ensures) (e .if2 .left))
-          (verdict-masks _ (v .judged .ensures .1) key)
+          (v .judged .ensures .1)
           (passed (m .is-new-marked .ensures) (c .before .if3 .left))
           before
           last,

@@ -1,4 +1,4 @@
--- `valid_pairs::is_new`: the places below j have other numbers; the loop ends at the first that has both, or with none left.
+-- `numbers::is_new`: the places below j have other numbers; the loop ends at the first that has both, or with none left.
 -- Assumes nothing.
 use mathlib.Core.Path.{_≡_, sym, ap}
 use mathlib.Core.Bool.{true, not, _&&_}
@@ -12,8 +12,8 @@ use borrow.Author.Tests.{eq-eqb, ne-eqb}
 use Rattle.letters.specs.Tests.{every}
 use Rattle.letters.proofs.TestLaws.{and-true, and-false, every-more, every-false}
 use Rattle.products.proofs.RecordLaws.{all-passed}
-use Rattle.noise.proofs.valid_pairs.is_new.Statement.{statement}
-use Rattle.noise.proofs.valid_pairs.is_new.Tie as tie
+use Rattle.noise.proofs.numbers.is_new.Statement.{statement}
+use Rattle.noise.proofs.numbers.is_new.Tie as tie
 
 abbrev Inv-loop : tie.InvT-loop
 Inv-loop lefts rights n left right j₀ j = (j ≤ n) × (every j (λ k. not (eqb (getD lefts k 0) left && eqb (getD rights k 0) right)) ≡ true)
