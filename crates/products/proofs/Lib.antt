@@ -14,6 +14,7 @@ pub mod RemapLaws
 pub mod ChangeLaws
 pub mod RowLaws
 pub mod MaskLaws
+pub mod MaskKeys
 pub mod WalkLaws
 pub mod ComparisonLaws
 pub mod OrderingLaws
