@@ -16,3 +16,4 @@ pub mod ChainLaws
 pub mod ValidSetLaws
 pub mod NumberedLaws
 pub mod MarkLaws
+pub mod GatherLaws
