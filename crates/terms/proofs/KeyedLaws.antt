@@ -228,6 +228,13 @@ unfolding has
 has-last p a [] e h = rw h
 has-last p a (x ∷ l) e h = let n = neither (p x) (has p l) e in rw (n .0, has-last p a l (n .1) h)
 
+-- where no element has the key, the one at a place does not
+pub none-at : {A : Type 0} (p : A → Bool) (l : List A) (i : ℕ) (d : A) → i < length l → has p l ≡ false → p (getD l i d) ≡ false
+unfolding has
+none-at p [] i d h e = absurd (omega arith)
+none-at p (x ∷ l) zero d h e = neither (p x) (has p l) e .0
+none-at p (x ∷ l) (suc i) d h e = none-at p l i d (omega arith) (neither (p x) (has p l) e .1)
+
 module _ {A : Type 0} (test : A → Bool) where
   struck-le : (b : Bool) (x : A) (s l : List A) → length s ≤ length l → length (cond b l (x ∷ s)) ≤ suc (length l)
   struck-le true x s l h = omega arith

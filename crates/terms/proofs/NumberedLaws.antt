@@ -1,7 +1,7 @@
 -- A loop that judges a set's terms one after the other, for any kind of set: each term alone, and by a number of its key, which the same keys
 -- share, against the numbers of the terms before it. The numbers stand in an array or in several, and `read j` is the one of place j.
 -- Assumes nothing.
-use Prim.Native.Nat.{ℕ, suc, _+_, _≤_, _<_}
+use Prim.Native.Nat.{ℕ, suc, _+_, _-_, _≤_, _<_}
 use native.Mathlib.Nat.{le-antisymm, eq-or-lt-of-le}
 use native.Mathlib.Numerals.{add-one}
 use native.Mathlib.Omega.{arith}
@@ -10,16 +10,16 @@ use mathlib.Core.Bool.{Bool, true, false, not, _&&_, true≢false}
 use mathlib.Core.List.{List, [], _∷_, _++_}
 use mathlib.Core.Logic.{⊎-elim}
 use lib.Dec.{eqb}
-use lib.ListN.{length, take, drop, getD, set}
-use lib.Seq.{getD-take, getD-set-other, length-take-le, take-suc}
+use lib.ListN.{length, take, drop, getD, set, length-drop}
+use lib.Seq.{getD-take, getD-drop, getD-set-other, length-take-le, take-suc}
 use borrow.Author.Tests.{eq-eqb, not-true}
 use Rattle.letters.specs.Tests.{every}
-use Rattle.letters.proofs.TestLaws.{and-true, and-left, and-right, every-at}
+use Rattle.letters.proofs.TestLaws.{and-true, and-left, and-right, every-at, every-intro}
 use Rattle.terms.specs.Keyed.{has, each}
 use Rattle.terms.specs.Kind.{Terms}
 use Rattle.terms.specs.Setting.{mostTerms, keyed}
 use Rattle.terms.specs.Places.{goodTerm}
-use Rattle.terms.proofs.KeyedLaws.{each-cons, each-head, each-tail, each-at, by-test, has-last}
+use Rattle.terms.proofs.KeyedLaws.{each-cons, each-head, each-tail, each-at, by-test, has-last, none-at}
 use Rattle.terms.proofs.EachLaws.{getD-any}
 use Rattle.terms.proofs.GoodLaws.{good-key, good-coefficient, good-different}
 use Rattle.terms.proofs.ValidSetLaws.{ValidSets}
@@ -152,6 +152,39 @@ module _ {K N R B : Type 0} {S : Terms K N} (W : ValidSets S R) (M : Numbers S B
               (λ q. ap new q ∙ last ∙ e ∙ ap (λ (t : S .Term). M .number (S .key t)) (getD-any (W .sets .places s) i d (W .sets .blank) inside ∙ ap (λ (k : ℕ). getD (W .sets .places s) k (W .sets .blank)) (sym q)))
               (λ q. before j q ∙ c .stored j q)
               (eq-or-lt-of-le b)
+
+      -- its number repeats, where good keys with one number are the same
+      pub numbered-again : {x : B} → ((k m : K) → W .goodKey k ≡ true → W .goodKey m ≡ true → M .same (M .number m) (M .number k) ≡ true → S .same k m ≡ true)
+          → x ≡ M .number (S .key this) → every i (λ j. not (M .same (read j) x)) ≡ false → false ≡ each fine (take (W .sets .count s) (W .sets .places s))
+      numbered-again {x} one e seen =
+          sym (by-test (each fine l)
+          (λ g. absurd (true≢false (sym (every-intro i (λ j. not (M .same (read j) x)) (λ j b. ap not (other g j b))) ∙ seen)))
+          (λ g. g))
+        where
+          l : List (S .Term)
+          l = take (W .sets .count s) (W .sets .places s)
+
+          long : length l ≡ W .sets .count s
+          long = length-take-le (W .sets .count s) (W .sets .places s) (omega (arith, c .whole, c .few))
+
+          -- if each were good, an earlier one would have another number
+          other : each fine l ≡ true → (j : ℕ) → j < i → M .same (read j) x ≡ false
+          other g j b =
+              let y = getD l j (W .sets .blank) in
+              let z = getD l i d in
+              let later = drop (j + 1) l in
+              let k = i - (j + 1) in
+              let fine-y : fine y later ≡ true = each-at fine l j (W .sets .blank) (omega (arith, long)) g in
+              let fine-z : fine z (drop (i + 1) l) ≡ true = each-at fine l i d (omega (arith, long)) g in
+              let there : getD later k d ≡ z = getD-drop (j + 1) l k d ∙ ap (λ (m : ℕ). getD l m d) (omega arith) in
+              let once : S .same (S .key z) (S .key y) ≡ false =
+              ap (keyed S (S .key y)) (sym there)
+              ∙ none-at (keyed S (S .key y)) later k d (omega (arith, long, length-drop (j + 1) l)) (not-true (has (keyed S (S .key y)) later) (good-different S (W .goodKey) (W .goodCoefficient) y later fine-y)) in
+              let p : M .number (S .key y) ≡ read j = ap (λ (t : S .Term). M .number (S .key t)) (getD-take (W .sets .count s) (W .sets .places s) j (W .sets .blank) (omega arith)) ∙ sym (c .stored j b) in
+              let q : M .number (S .key z) ≡ x = ap (λ (t : S .Term). M .number (S .key t)) (getD-take (W .sets .count s) (W .sets .places s) i d h) ∙ sym e in
+              by-test (M .same (read j) x)
+              (λ t. absurd (true≢false (sym (one (S .key z) (S .key y) (good-key S (W .goodKey) (W .goodCoefficient) z (drop (i + 1) l) fine-z) (good-key S (W .goodKey) (W .goodCoefficient) y later fine-y) ((λ v. M .same (p v) (q v)) ∙ t)) ∙ once)))
+              (λ t. t)
 
     pub numbered-done : {i : ℕ} → Numbered s read i → W .sets .count s ≤ i → true ≡ each fine (take (W .sets .count s) (W .sets .places s))
     numbered-done {i} c h = sym (subst (λ (k : ℕ). each fine (take k (W .sets .places s)) ≡ true) (le-antisymm (c .within) h) (c .judged))
