@@ -8,3 +8,4 @@ pub mod RealValidLaws
 pub mod CopyLaws
 pub mod ValidAnswers
 pub mod RealValidAnswers
+pub mod MaskLaws

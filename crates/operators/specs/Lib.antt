@@ -5,3 +5,4 @@ pub mod Chained
 pub mod Kinds
 pub mod Reals
 pub mod RealAnswers
+pub mod RealMasks

@@ -6,5 +6,5 @@ mod numbers;
 pub mod pauli_hamiltonian;
 pub mod pauli_operator;
 pub mod term_set;
-mod valid_reals;
+pub mod valid_reals;
 mod valid_terms;

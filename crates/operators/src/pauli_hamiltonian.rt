@@ -16,8 +16,7 @@ use crate::term_set::SetAnswer;
 use crate::term_set::Term;
 use crate::term_set::TermSet;
 use crate::term_set::held_count;
-use crate::valid_reals::all_good;
-use crate::valid_reals::blanks_past;
+use crate::valid_reals::masked;
 use complex::Complex;
 use products::items::Items;
 use products::pauli_product::PauliProduct;
@@ -199,13 +198,8 @@ impl PauliHamiltonian {
     pub fn is_valid(self) -> bool
         ensures { λ r. ⌜ r ≡ validSet self ⌝ }
     {
-        if 64 < self.count {
-            return false;
-        }
-        if all_good(self) {
-            return blanks_past(self);
-        }
-        false
+        let v = masked(self);
+        v.valid
     }
 
     // The coefficient under a key, its second part +0.

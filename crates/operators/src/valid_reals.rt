@@ -1,17 +1,25 @@
-// Whether number 0 lets a Hamiltonian pass: its held terms, and the zero records past them.
+// Whether number 0 lets a Hamiltonian pass: its held terms, and the zero records past them; and the masks of those terms.
 ghost use mathlib.Core.Path.{_≡_};
-ghost use mathlib.Core.Bool.{not, _&&_};
-ghost use Prim.Native.Nat.{_+_, _<_, _≤_};
+ghost use mathlib.Core.Bool.{not, _&&_, cond};
+ghost use Prim.Native.Nat.{_≤_};
 ghost use lib.Ieee.{eq};
-ghost use lib.ListN.{getD, drop};
+ghost use lib.ListN.{drop};
 ghost use Rattle.complex.specs.Complex.{plusZero, partInRange};
 ghost use Rattle.terms.specs.Keyed.{each};
-ghost use Rattle.operators.specs.Reals.{blank, heldBy, goodTerm, isBlank};
+ghost use Rattle.operators.specs.Reals.{heldBy, goodTerm, isBlank};
+ghost use Rattle.operators.specs.RealMasks.{heldMasks, noMasks, realMasks};
 use crate::numbers::is_new_marked;
 use crate::numbers::mark_of;
 use crate::pauli_hamiltonian::PauliHamiltonian;
 use crate::pauli_hamiltonian::RealTerm;
-use crate::pauli_hamiltonian::find_from;
+
+// What number 0 says of a Hamiltonian; of a valid one its count, and each term's masks and coefficient.
+pub struct RealMasks {
+    pub valid: bool,
+    pub count: usize,
+    pub masks: [u64; 64],
+    pub parts: [f64; 64],
+}
 
 // Whether a record is the zero record.
 fn is_blank(t: RealTerm) -> bool
@@ -34,46 +42,27 @@ fn good_coefficient(x: f64) -> bool
     !(x == 0.0)
 }
 
-// Whether the term at a place is as a Hamiltonian holds it.
-fn good_term(s: PauliHamiltonian, i: usize) -> bool
-    requires { ⌜ (s .count ≤ 64) × (i < s .count) ⌝ }
-    ensures { λ r. ⌜ r ≡ goodTerm (getD (heldBy s) i blank) (drop (i + 1) (heldBy s)) ⌝ }
+// The answer on a Hamiltonian that number 0 does not let pass.
+fn refused() -> RealMasks
+    ensures { λ r. ⌜ r ≡ noMasks ⌝ }
 {
-    let t = s.terms[i];
-    let p = t.items;
-    if !products::items::is_valid(p) {
-        return false;
+    RealMasks {
+        valid: false,
+        count: 0,
+        masks: [0; 64],
+        parts: [0.0; 64],
     }
-    if !good_coefficient(t.coefficient) {
-        return false;
-    }
-    find_from(s, i + 1, p) == s.count
 }
 
-// Whether every held term is.
-fn good_terms(s: PauliHamiltonian) -> bool
+// The held terms' masks and coefficients, where every held term is good. Good terms with one number have one key, so a number
+// that repeats is refused.
+fn gathered(s: PauliHamiltonian) -> RealMasks
     requires { ⌜ s .count ≤ 64 ⌝ }
-    ensures { λ r. ⌜ r ≡ each goodTerm (heldBy s) ⌝ }
+    ensures { λ r. ⌜ r ≡ cond (each goodTerm (heldBy s)) (heldMasks s) noMasks ⌝ }
 {
     let n = s.count;
-    let mut i = 0;
-    while i < n {
-        if !good_term(s, i) {
-            return false;
-        }
-        i += 1;
-    }
-    true
-}
-
-// The same answer by the numbers of the keys: terms with different numbers have different keys, and only where a number repeats
-// are the keys compared.
-pub(crate) fn all_good(s: PauliHamiltonian) -> bool
-    requires { ⌜ s .count ≤ 64 ⌝ }
-    ensures { λ r. ⌜ r ≡ each goodTerm (heldBy s) ⌝ }
-{
-    let n = s.count;
-    let mut numbers = [0u64; 64];
+    let mut masks = [0u64; 64];
+    let mut parts = [0.0; 64];
     let mut marks = [0u8; 256];
     let mut i: usize = 0;
     while i < n {
@@ -81,25 +70,31 @@ pub(crate) fn all_good(s: PauliHamiltonian) -> bool
         let p = t.items;
         let v = products::items::judged(p);
         if !v.valid {
-            return false;
+            return refused();
         }
         if !good_coefficient(t.coefficient) {
-            return false;
+            return refused();
         }
         let x = v.masks;
-        if !is_new_marked(&marks, &numbers, i, x) {
-            return good_terms(s);
+        if !is_new_marked(&marks, &masks, i, x) {
+            return refused();
         }
-        numbers[i] = x;
+        masks[i] = x;
+        parts[i] = t.coefficient;
         let at = mark_of(x);
         marks[at] = 1;
         i += 1;
     }
-    true
+    RealMasks {
+        valid: true,
+        count: n,
+        masks: masks,
+        parts: parts,
+    }
 }
 
 // Whether zero records stand past the count.
-pub(crate) fn blanks_past(s: PauliHamiltonian) -> bool
+fn blanks_past(s: PauliHamiltonian) -> bool
     requires { ⌜ s .count ≤ 64 ⌝ }
     ensures { λ r. ⌜ r ≡ each (λ t ts. isBlank t) (drop (s .count) (s .terms)) ⌝ }
 {
@@ -112,4 +107,20 @@ pub(crate) fn blanks_past(s: PauliHamiltonian) -> bool
         i += 1;
     }
     true
+}
+
+// A Hamiltonian judged by number 0: of a valid one the count and each term's masks and coefficient, zeros past them.
+pub fn masked(s: PauliHamiltonian) -> RealMasks
+    ensures { λ r. ⌜ r ≡ realMasks s ⌝ }
+{
+    let n = s.count;
+    if 64 < n {
+        return refused();
+    }
+    if n < 64 {
+        if !blanks_past(s) {
+            return refused();
+        }
+    }
+    gathered(s)
 }

@@ -1,9 +1,9 @@
--- The loop's invariant: the first i places hold the terms with complex coefficients, and blanks stand past them (`Copied`).
+-- The loop's invariant: the first i places hold the terms with complex coefficients, and blanks stand past them (`Gathered`).
 use borrow.Author.Needs.{needs}
 use native.Mathlib.Omega.{arith}
 use Prim.Native.Nat.{_-_}
 use mathlib.Core.List.{List, [], map}
-use mathlib.Core.Path.{_≡_, ap, _∙_}
+use mathlib.Core.Path.{_≡_, refl, ap, _∙_}
 use lib.ListN.{length, length-map}
 use Rattle.terms.specs.Keyed.{padded}
 use Rattle.terms.specs.Setting.{mostTerms}
@@ -12,13 +12,14 @@ use Rattle.operators.specs.Reals.{complexTerm}
 use Rattle.operators.specs.declared.pauli_hamiltonian.RealTerm.{RealTerm}
 use Rattle.operators.specs.declared.term_set.TermSet.{TermSet}
 use Rattle.terms.proofs.FilledLaws.{filled-by, filled-places}
-use Rattle.operators.proofs.CopyLaws.{take-held, Copied, copied-none, copied-more, copied-done, copied-count}
+use Rattle.terms.proofs.GatherLaws.{Gathered, gathered-none, gathered-more, gathered-done, gathered-count}
+use Rattle.operators.proofs.CopyLaws.{take-held}
 use Rattle.operators.proofs.SetLaws.{termSets}
 use Rattle.operators.proofs.pauli_hamiltonian.complex_terms.Statement.{statement}
 use Rattle.operators.proofs.pauli_hamiltonian.complex_terms.Tie as tie
 
 abbrev Inv-loop : tie.InvT-loop
-Inv-loop s n r₀ i₀ r i = Copied complexTerm complexes.blank n (s .terms) (r .terms) i
+Inv-loop s n r₀ i₀ r i = Gathered complexTerm complexes.blank n (s .terms) (r .terms) i
 
 abbrev μ-loop : tie.MeasureT-loop
 μ-loop s n r₀ i₀ r i = n - i
@@ -36,7 +37,7 @@ empty-set-requires c κs = search needs
 loop-holds : tie.Need-loop-holds Inv-loop μ-loop
 loop-holds c =
     let w = whole (c .before .before) in
-    copied-none (omega arith) (omega arith) (ap (λ (o : TermSet). o .terms) (c .empty-set .ensures) ∙ filled-places termSets [])
+    gathered-none (omega arith) (omega arith) (ap (λ (o : TermSet). o .terms) (c .empty-set .ensures) ∙ filled-places termSets [])
 
 mul-t : tie.Need-mul-t Inv-loop μ-loop
 mul-t c = omega arith
@@ -57,15 +58,15 @@ loop-less : tie.Need-loop-less Inv-loop μ-loop
 loop-less c = omega arith
 
 loop-again : tie.Need-loop-again Inv-loop μ-loop
-loop-again c = copied-more _ (c .before .before .before .loop .inv) (omega arith)
+loop-again c = gathered-more _ (c .before .before .before .loop .inv) (omega arith) refl
 
 returns : tie.Need-returns Inv-loop μ-loop
 returns c =
     let l = c .before in
     let s = l .before .before .before in
     let all = take-held (s .args .t1 .terms) (s .args .t1 .count) (whole s) (l .before .before .held-count .ensures) in
-    filled-by termSets _ _ (copied-count (l .loop .inv) ∙ ap (λ (t : List RealTerm). length (map complexTerm t)) all)
-    (copied-done (l .loop .inv) (omega arith) ∙ ap (λ (t : List RealTerm). padded mostTerms complexes.blank (map complexTerm t)) all)
+    filled-by termSets _ _ (gathered-count (l .loop .inv) ∙ ap (λ (t : List RealTerm). length (map complexTerm t)) all)
+    (gathered-done (l .loop .inv) (omega arith) ∙ ap (λ (t : List RealTerm). padded mostTerms complexes.blank (map complexTerm t)) all)
 
 pub complex-terms-spec : {M : Type 1} → statement M
 complex-terms-spec =

@@ -1,40 +1,15 @@
--- `PauliHamiltonian::is_valid`: the array has its length, and each return goes by the tests that led there.
+-- `PauliHamiltonian::is_valid`: whether the Hamiltonian is valid is what judging it hands out first.
 -- Assumes nothing.
-use mathlib.Core.Path.{_≡_, sym, _∙_}
-use lib.ListN.{length, length-map}
 use borrow.Author.Needs.{needs}
-use borrow.Author.Tests.{le-leb, lt-leb}
-use Rattle.terms.proofs.ValidSetLaws.{valid-is}
-use Rattle.operators.proofs.RealValidLaws.{validHamiltonians}
+use Rattle.operators.proofs.MaskLaws.{masked-valid}
 use Rattle.operators.proofs.pauli_hamiltonian.PauliHamiltonian.is_valid.Statement.{statement}
 use Rattle.operators.proofs.pauli_hamiltonian.PauliHamiltonian.is_valid.Tie as tie
 
-whole : (c : tie.Start) → length (c .args .self .terms) ≡ 64
-whole c = simp length-map at (c .good .0 .1 .1 .1 .0 .1 .0 .1)
+masked-requires : tie.Need-masked-requires
+masked-requires c κs = search needs
 
 returns : tie.Need-returns
-returns c =
-    let b = c .before .before in
-    rw (valid-is validHamiltonians (b .args .self) (whole b), lt-leb _ _ (c .if1 .taken))
-
-all-good-requires : tie.Need-all-good-requires
-all-good-requires c κs = search needs
-
-blanks-past-requires : tie.Need-blanks-past-requires
-blanks-past-requires c κs = search needs
-
-returns-2 : tie.Need-returns-2
-returns-2 c =
-    let b = c .before .before .before .before .before in
-    let good = sym (c .before .before .all-good .ensures) ∙ c .before .if2 .taken in
-    rw (valid-is validHamiltonians (b .args .self) (whole b), le-leb _ _ (c .before .before .before .if1 .left), good, c .blanks-past .ensures)
-
-returns-3 : tie.Need-returns-3
-returns-3 c =
-    let b = c .before .before .before .before in
-    let good = sym (c .before .all-good .ensures) ∙ c .if2 .left in
-    rw (valid-is validHamiltonians (b .args .self) (whole b), le-leb _ _ (c .before .before .if1 .left), good)
+returns c = masked-valid (c .before .args .self) (c .masked .ensures)
 
 pub is-valid-spec : {M : Type 1} → statement M
-is-valid-spec =
-    tie.close (tie.spec returns all-good-requires blanks-past-requires returns-2 returns-3)
+is-valid-spec = tie.close (tie.spec masked-requires returns)
