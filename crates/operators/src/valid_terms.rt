@@ -1,16 +1,15 @@
 // Whether number 0 lets a set of complex terms pass: its held terms, and the zero records past them.
 ghost use mathlib.Core.Path.{_≡_};
 ghost use mathlib.Core.Bool.{not, _&&_, _||_};
-ghost use Prim.Native.Nat.{_+_, _<_, _≤_};
-ghost use lib.ListN.{getD, drop};
+ghost use Prim.Native.Nat.{_≤_};
+ghost use lib.ListN.{drop};
 ghost use Rattle.complex.specs.Complex.{isZero, inRange};
 ghost use Rattle.terms.specs.Keyed.{each};
-ghost use Rattle.operators.specs.Complexes.{blank, heldBy, goodTerm, isBlank};
+ghost use Rattle.operators.specs.Complexes.{heldBy, goodTerm, isBlank};
 use crate::numbers::is_new_marked;
 use crate::numbers::mark_of;
 use crate::term_set::Term;
 use crate::term_set::TermSet;
-use crate::term_set::find_from;
 use complex::Complex;
 
 // Whether a record is the zero record.
@@ -40,41 +39,8 @@ fn good_coefficient(zeros: bool, c: Complex) -> bool
     !c.is_zero()
 }
 
-// Whether the term at a place is as a valid set holds it.
-fn good_term(zeros: bool, s: TermSet, i: usize) -> bool
-    requires { ⌜ (s .count ≤ 64) × (i < s .count) ⌝ }
-    ensures { λ r. ⌜ r ≡ goodTerm zeros (getD (heldBy s) i blank) (drop (i + 1) (heldBy s)) ⌝ }
-{
-    let t = s.terms[i];
-    let p = t.items;
-    let c = t.coefficient;
-    if !products::items::is_valid(p) {
-        return false;
-    }
-    if !good_coefficient(zeros, c) {
-        return false;
-    }
-    find_from(s, i + 1, p) == s.count
-}
-
-// Whether every held term is.
-fn good_terms(zeros: bool, s: TermSet) -> bool
-    requires { ⌜ s .count ≤ 64 ⌝ }
-    ensures { λ r. ⌜ r ≡ each (goodTerm zeros) (heldBy s) ⌝ }
-{
-    let n = s.count;
-    let mut i = 0;
-    while i < n {
-        if !good_term(zeros, s, i) {
-            return false;
-        }
-        i += 1;
-    }
-    true
-}
-
-// The same answer by the numbers of the keys: terms with different numbers have different keys, and only where a number repeats
-// are the keys compared.
+// Whether every held term is as a valid set holds it. Terms with different numbers have different keys, and good terms with one number
+// have one key.
 pub(crate) fn all_good(zeros: bool, s: TermSet) -> bool
     requires { ⌜ s .count ≤ 64 ⌝ }
     ensures { λ r. ⌜ r ≡ each (goodTerm zeros) (heldBy s) ⌝ }
@@ -96,7 +62,7 @@ pub(crate) fn all_good(zeros: bool, s: TermSet) -> bool
         }
         let x = v.masks;
         if !is_new_marked(&marks, &numbers, i, x) {
-            return good_terms(zeros, s);
+            return false;
         }
         numbers[i] = x;
         let at = mark_of(x);

@@ -1,5 +1,5 @@
 -- `valid_terms::all_good`: the terms below i are good and have different numbers, which stand in their places (`Numbered`) and are marked (`Marked`);
--- the loop ends at the first term that fails alone, with none left, or where a number repeats with the answer of `good_terms`.
+-- the loop ends at the first term that fails alone, where a number repeats, or with none left.
 -- Assumes nothing.
 use Prim.Native.Nat.{ℕ, _-_}
 use mathlib.Core.Path.{_≡_, refl, _∙_}
@@ -7,19 +7,20 @@ use native.Mathlib.Omega.{arith}
 use lib.ListN.{length, length-map, length-set, getD}
 use lib.Seq.{getD-set-same}
 use borrow.Author.Needs.{needs}
-use Rattle.products.specs.Verdicts.{judgedMasks}
+use Rattle.products.specs.Masks.{masksOf}
 use Rattle.products.proofs.SameLaws.{same-equal}
 use Rattle.terms.specs.Marks.{markOf, Marked}
-use Rattle.terms.proofs.BranchLaws.{passed, failed-first, failed-second, passed-both}
-use Rattle.terms.proofs.NumberedLaws.{Numbers, oneNumber, stored-before, Numbered, numbered-none, numbered-failed, numbered-more, numbered-done}
+use Rattle.terms.proofs.BranchLaws.{passed, failed, failed-first, failed-second, passed-both}
+use Rattle.terms.proofs.NumberedLaws.{Numbers, oneNumber, stored-before, Numbered, numbered-none, numbered-failed, numbered-again, numbered-more, numbered-done}
 use Rattle.terms.proofs.MarkLaws.{marked-none, marked-more}
 use Rattle.operators.specs.Complexes.{complexTerms}
 use Rattle.operators.proofs.ValidLaws.{validTermSets}
+use Rattle.operators.proofs.MaskLaws.{judged-masks, masks-again}
 use Rattle.operators.proofs.valid_terms.all_good.Statement.{statement}
 use Rattle.operators.proofs.valid_terms.all_good.Tie as tie
 
 abbrev numbers-of : Numbers complexTerms ℕ
-numbers-of = oneNumber complexTerms same-equal judgedMasks
+numbers-of = oneNumber complexTerms same-equal masksOf
 
 abbrev Inv-loop : tie.InvT-loop
 Inv-loop zeros s n numbers₀ marks₀ i₀ numbers marks i =
@@ -63,11 +64,16 @@ is-new-marked-requires c κs =
     let l = c .before .before .before .before .before .before .before .before .before .before .before in
     (omega arith, l .loop .inv .1 .0)
 
-good-terms-requires : tie.Need-good-terms-requires Inv-loop μ-loop
-good-terms-requires c κs = search needs
-
 returns-3 : tie.Need-returns-3 Inv-loop μ-loop
-returns-3 c = c .good-terms .ensures
+returns-3 c =
+    let m = c .before in
+    let e = m .before .before .before in
+    let g = e .before in
+    let v = g .before .before .before in
+    let l = v .before .before .before .before .before in
+    numbered-again (validTermSets (l .before .args .zeros)) numbers-of _ (l .loop .inv .0) (omega arith) masks-again
+    (judged-masks _ (passed (v .judged .ensures .0) (g .before .if1 .left)) (v .judged .ensures .1))
+    (failed (m .is-new-marked .ensures) (c .if3 .taken))
 
 mul-numbers : tie.Need-mul-numbers Inv-loop μ-loop
 mul-numbers c = omega arith
@@ -101,7 +107,7 @@ loop-again c =
     let last = getD-set-same numbers i x 0 (search needs) in (
       numbered-more (validTermSets (l .before .args .zeros)) numbers-of _ (l .loop .inv .0) (omega arith) _
           (passed-both (v .judged .ensures .0) (g .before .if1 .left) (g .good-coefficient .ensures) (e .if2 .left))
-          (v .judged .ensures .1)
+          (judged-masks _ (passed (v .judged .ensures .0) (g .before .if1 .left)) (v .judged .ensures .1))
           (passed (m .is-new-marked .ensures) (c .before .if3 .left))
           before
           last,
@@ -128,7 +134,6 @@ all-good-spec =
     good-coefficient-requires
     returns-2
     is-new-marked-requires
-    good-terms-requires
     returns-3
     mul-numbers
     array-write-numbers
