@@ -1,10 +1,9 @@
 -- Worked cases of the definitions, each computed. Assumes nothing.
 use mathlib.Core.Path.{_≡_, refl}
-use mathlib.Core.Bool.{true, false, not, _&&_}
+use mathlib.Core.Bool.{true, false}
 use mathlib.Core.Option.{none, some}
 use lib.IntN.{pos, negsuc}
-use lib.Ieee.{Float, nan, inf, fin, binary64, ofBits, add, sub, mul, neg, eq, lt, le}
-use Rattle.complex.specs.declared.Complex.{Complex}
+use lib.Ieee.{Float, nan, inf, fin, ofBits, add, sub, mul, neg, eq}
 use Rattle.complex.specs.Complex.{atMost, partInRange, inRange, isZero, productOf, sumOf, conjugateOf, plusZero}
 use Rattle.complex.specs.Wholes.{wholeFraction, partsIn, wholeOf, isWhole, partsOf, bothWhole}
 

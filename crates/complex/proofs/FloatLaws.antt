@@ -1,18 +1,17 @@
--- Laws of the size test: two comparisons decide it, and the sign does not count.
--- Then the range and the zero test of a conjugate and of a real number. Assumes nothing.
+-- Laws of the size test: two comparisons decide it.
+-- Then the range and the zero test of a real number. Assumes nothing.
 use Prim.Native.Nat.{ℕ, _+_, _*_, _^_, _<_}
-use native.Mathlib.Nat.{mul-one, one-mul, zero-mul, mul-pos}
+use native.Mathlib.Nat.{mul-one, one-mul, mul-pos}
 use native.Mathlib.Omega.{arith}
 use mathlib.Core.Path.{_≡_, refl, sym, _∙_}
-use mathlib.Core.Bool.{Bool, true, false, not, _&&_, _||_, Bool·beq, and-true}
-use lib.Dec.{T, leb, ltb, eqb}
+use mathlib.Core.Bool.{Bool, true, false, _&&_, _||_, and-true}
+use lib.Dec.{leb, ltb, eqb}
 use lib.IntN.{ℤ, pos}
 use lib.Pow.{pow-pos}
-use lib.Ieee.{Float, nan, inf, fin, le, lt, eq, neg, up, down, ofBits, isNan}
+use lib.Ieee.{Float, nan, inf, fin, le, lt, eq, up, down, ofBits}
 use lib.Ieee.Fits.{down-pos}
 use borrow.Author.Tests.{lt-ltb, le-leb, lt-leb, eq-eqb, ne-eqb, ltb-true, ltb-false, eqb-true, eqb-false}
-use Rattle.complex.specs.declared.Complex.{Complex}
-use Rattle.complex.specs.Complex.{atMost, limitPower, partInRange, inRange, isZero, conjugateOf, plusZero}
+use Rattle.complex.specs.Complex.{atMost, partInRange, inRange, isZero, plusZero}
 
 -- a ≤ b as `<` or `=`
 le-split : (a b : ℕ) → (ltb a b || (eqb a b && true)) ≡ leb a b
@@ -65,49 +64,6 @@ module _ (k : ℕ) where
       rw (lt-ltb 0 (1 * 2 ^ k * down d + m * up d * 1) (omega arith), ← mul-one (m * up d), ← one-mul (2 ^ k)) (sym e ∙ le-split (m * up d * 1) (1 * 2 ^ k * down d))
   between-powers (fin true m d) e =
       rw (eqb-sym (1 * 2 ^ k * down d) (m * up d * 1)) (le-split (m * up d * 1) (1 * 2 ^ k * down d) ∙ rw (mul-one (m * up d), one-mul (2 ^ k)))
-
-  -- a sign does not change the size
-  pub at-most-neg : (x : Float) → atMost k (neg x) ≡ atMost k x
-  unfolding atMost neg
-  at-most-neg nan = refl
-  at-most-neg (inf s) = refl
-  at-most-neg (fin s m e) = refl
-
--- a part in range is a number
-pub in-range-number : (x : Float) → partInRange x ≡ true → T (not (isNan x))
-unfolding partInRange atMost isNan
-in-range-number nan h = absurd (clash (sym h))
-in-range-number (inf s) h = tt
-in-range-number (fin s m e) h = tt
-
--- -x is in range where x is
-pub part-in-range-neg : (x : Float) → partInRange (neg x) ≡ partInRange x
-unfolding partInRange
-part-in-range-neg x = at-most-neg limitPower x
-
--- a conjugate is in range where its number is
-pub in-range-conjugate : (z : Complex) → inRange (conjugateOf z) ≡ inRange z
-unfolding inRange conjugateOf
-in-range-conjugate z = rw part-in-range-neg
-
--- b and (s or b) is b
-absorbed : (s b : Bool) → (b && (s || b)) ≡ b
-absorbed s false = refl
-absorbed true true = refl
-absorbed false true = refl
-
--- -x is zero where x is
-zero-neg : (x : Float) → eq (neg x) plusZero ≡ eq x plusZero
-unfolding eq neg ofBits
-zero-neg nan = refl
-zero-neg (inf s) = refl
-zero-neg (fin s m e) =
-    rw (zero-mul (down e)) (absorbed (Bool·beq (not s) false) (eqb (m * up e * 1) 0) ∙ sym (absorbed (Bool·beq s false) (eqb (m * up e * 1) 0)))
-
--- a conjugate is zero where its number is
-pub is-zero-conjugate : (z : Complex) → isZero (conjugateOf z) ≡ isZero z
-unfolding isZero conjugateOf
-is-zero-conjugate z = rw zero-neg
 
 -- a real number, with the imaginary part +0, is in range where that number is
 pub in-range-real : (x : Float) → inRange (record { re = x; im = plusZero }) ≡ partInRange x

@@ -15,11 +15,10 @@ use lib.Ieee.Fits.{down-pos}
 use lib.Ieee.Exact.{HasValue}
 use lib.Ieee.Nearest.{div-same}
 use borrow.Author.Tests.{le-leb, eq-eqb, ne-eqb, leb-true, eqb-true, eqb-false}
-use Rattle.complex.specs.declared.Complex.{Complex}
 use Rattle.complex.specs.declared.whole.WholePart.{WholePart}
 use Rattle.complex.specs.declared.whole.WholePart.the-variants.{Parts, NotWhole}
-use Rattle.complex.specs.Complex.{plusZero, conjugateOf}
-use Rattle.complex.specs.Wholes.{grainPower, mostPartsPower, signed, wholeFraction, partsIn, wholeOf, isSome, isWhole, partsOf, bothWhole, saidWhole}
+use Rattle.complex.specs.Complex.{plusZero}
+use Rattle.complex.specs.Wholes.{grainPower, mostPartsPower, signed, wholeFraction, partsIn, wholeOf, isSome, isWhole, partsOf, saidWhole}
 use Rattle.complex.proofs.FloatLaws.{clash}
 
 -- ---- one fraction in two ways
@@ -244,9 +243,6 @@ parts-abs x = go (wholeOf x) refl
     go none e = omega arith
     go (some z) e = whole-abs x z e
 
-pub parts-size : (x : Float) → mag (partsOf x) ≤ 2 ^ mostPartsPower
-parts-size x = le-trans (mag-abs (partsOf x)) (parts-abs x)
-
 -- floats that are equal as numbers pass together, with one number
 pub equal-whole : (x y : Float) → eq x y ≡ true → wholeOf x ≡ wholeOf y
 unfolding wholeOf
@@ -269,37 +265,10 @@ pub zero-parts : partsOf plusZero ≡ pos 0
 unfolding partsOf wholeOf partsIn wholeFraction ofBits
 zero-parts = refl
 
--- a whole part is zero, +0 or -0, exactly if it has 0 parts
-pub whole-zero : (x : Float) → isWhole x ≡ true → (eq x plusZero ≡ true → partsOf x ≡ pos 0) × (partsOf x ≡ pos 0 → eq x plusZero ≡ true)
-whole-zero x h =
-    let w = whole-equal x plusZero h zero-whole in
-    ((λ e. w .0 e ∙ zero-parts), (λ e. w .1 (e ∙ sym zero-parts)))
-
 -- -x is whole where x is, with the number negated
 pub whole-neg : (x : Float) → wholeOf (neg x) ≡ Option·map negℤ (wholeOf x)
 unfolding wholeOf
 whole-neg x = parts-neg grainPower mostPartsPower x
-
-pub is-whole-neg : (x : Float) → isWhole (neg x) ≡ isWhole x
-unfolding isWhole
-is-whole-neg x = rw (whole-neg x) (go (wholeOf x))
-  where
-    go : (o : Option ℤ) → isSome (Option·map negℤ o) ≡ isSome o
-    go none = refl
-    go (some z) = refl
-
-pub parts-of-neg : (x : Float) → partsOf (neg x) ≡ negℤ (partsOf x)
-unfolding partsOf
-parts-of-neg x = rw (whole-neg x) (go (wholeOf x))
-  where
-    go : (o : Option ℤ) → Option·getD (Option·map negℤ o) (pos 0) ≡ negℤ (Option·getD o (pos 0))
-    go none = refl
-    go (some z) = refl
-
--- a conjugate is whole where its number is
-pub both-whole-conjugate : (z : Complex) → bothWhole (conjugateOf z) ≡ bothWhole z
-unfolding bothWhole conjugateOf
-both-whole-conjugate z = rw is-whole-neg
 
 -- what `whole_part` says fixes its answer
 pub whole-known : (r q : WholePart) → saidWhole r ≡ saidWhole q → r ≡ q

@@ -11,7 +11,6 @@ use Rattle.letters.proofs.TestLaws.{and-true, and-left, and-false}
 use Rattle.complex.specs.Complex.{isZero, inRange}
 use Rattle.complex.specs.declared.Complex.{Complex}
 use Rattle.complex.proofs.FloatLaws.{clash}
-use Rattle.products.specs.Record.{valid}
 use Rattle.terms.specs.Keyed.{each, concatMap}
 use Rattle.terms.specs.Setting.{mostTerms, addAll}
 use Rattle.terms.specs.Chains.{pairTerms as fullTerms}

@@ -1,7 +1,7 @@
 -- Lines with whole parts as terms with whole coefficients: pages are the same exactly if these terms are, and the terms of a valid set are sound.
 -- Assumes nothing.
 use mathlib.Core.Path.{_≡_, refl, sym, ap, _∙_}
-use mathlib.Core.Bool.{Bool, true, false, not, _||_, cond}
+use mathlib.Core.Bool.{Bool, true, false, _||_, cond}
 use mathlib.Core.List.{List, [], _∷_, map}
 use mathlib.Core.Logic.{_↔_}
 use lib.Ieee.{eq}

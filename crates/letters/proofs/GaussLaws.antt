@@ -85,9 +85,6 @@ pub ⊝-⊕ : (x : G) → ⊝ x ⊕ x ≡ 𝟘
 unfolding _⊕_ 𝟘 ⊝
 ⊝-⊕ x = G-path (+ℤ-invl (x .re)) (+ℤ-invl (x .im))
 
-pub ⊕-⊝ : (x : G) → x ⊕ ⊝ x ≡ 𝟘
-⊕-⊝ x = ⊕-comm x (⊝ x) ∙ ⊝-⊕ x
-
 pub ⊕-left-comm : (x y z : G) → x ⊕ (y ⊕ z) ≡ y ⊕ (x ⊕ z)
 ⊕-left-comm x y z = sym (⊕-assoc x y z) ∙ ap (λ w. w ⊕ z) (⊕-comm x y) ∙ ⊕-assoc y x z
 
@@ -240,10 +237,6 @@ pub conj-⊕ : (x y : G) → conj (x ⊕ y) ≡ conj x ⊕ conj y
 unfolding conj _⊕_
 conj-⊕ x y = G-path refl (negℤ-+ℤ (x .im) (y .im))
 
-pub conj-⊝ : (x : G) → conj (⊝ x) ≡ ⊝ (conj x)
-unfolding conj ⊝
-conj-⊝ x = refl
-
 conj-re : (a b c d : ℤ) → a *ℤ c +ℤ negℤ (b *ℤ d) ≡ a *ℤ c +ℤ negℤ (negℤ b *ℤ negℤ d)
 conj-re a b c d = simp ring-ℤ
 
@@ -269,10 +262,6 @@ conj-−𝟙 = refl
 pub conj-i⁺ : conj i⁺ ≡ i⁻
 unfolding conj i⁺ i⁻
 conj-i⁺ = refl
-
-pub conj-i⁻ : conj i⁻ ≡ i⁺
-unfolding conj i⁺ i⁻
-conj-i⁻ = refl
 
 -- ---- powers of i
 
@@ -330,10 +319,6 @@ one-not-zero e = let p : _≡_ {A = ℕ} 1 0 = ap (λ x. natAbs (x .re)) e in om
 -- a power of i is not 0
 pub i^-not-zero : (k : ℕ) → i^ k ≡ 𝟘 → ⊥
 i^-not-zero k e = one-not-zero (sym (i^-unit k) ∙ ap (λ x. i^ (3 * k) ⊗ x) e ∙ ⊗-𝟘 (i^ (3 * k)))
-
--- a common power of i goes from both sides
-pub i^-cancel : (k : ℕ) (x y : G) → i^ k ⊗ x ≡ i^ k ⊗ y → x ≡ y
-i^-cancel k x y e = ⊗-cancel (i^ k) (i^ (3 * k)) x y (i^-unit k) e
 
 -- the conjugate of a power of i is its inverse
 pub conj-i^ : (k : ℕ) → conj (i^ k) ≡ i^ (3 * k)

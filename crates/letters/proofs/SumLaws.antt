@@ -38,10 +38,6 @@ unfolding Σ
 Σ-scale zero c f = sym (⊗-𝟘 c)
 Σ-scale (suc N) c f = ap (λ x. x ⊕ c ⊗ f N) (Σ-scale N c f) ∙ sym (⊗-⊕ c (Σ N f) (f N))
 
--- a common factor behind
-pub Σ-scale-r : (N : ℕ) (c : G) (f : ℕ → G) → Σ N (λ k. f k ⊗ c) ≡ Σ N f ⊗ c
-Σ-scale-r N c f = Σ-cong N (λ k. ⊗-comm (f k) c) ∙ Σ-scale N c f ∙ ⊗-comm c (Σ N f)
-
 -- two sums in either order
 pub Σ-swap : (N K : ℕ) (f : ℕ → ℕ → G) → Σ N (λ a. Σ K (f a)) ≡ Σ K (λ b. Σ N (λ a. f a b))
 unfolding Σ

@@ -1,8 +1,8 @@
 -- What the single-site entries answer: a letter with its power of i, or a refusal; and the same with the factor as floats.
 -- Document 01, `One site has sixteen cases`, and number 2.
 use Prim.Native.Nat.{ℕ}
-use mathlib.Core.Bool.{Bool, _||_, cond}
-use mathlib.Core.List.{List, []}
+use mathlib.Core.Bool.{_||_, cond}
+use mathlib.Core.List.{[]}
 use lib.Dec.{ltb}
 use lib.Ieee.{Float}
 use Rattle.refusal.specs.Refusals.{Said, gives, refuses, number, siteOf}

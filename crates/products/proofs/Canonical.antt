@@ -108,11 +108,6 @@ canonical p v =
 pub canonical-span : (p : Items) → valid p ≡ true → (span : ℕ) → reach p ≤ span → recordOf (letterAt p) span ≡ p
 canonical-span p v span l = record-span (letterAt p) (reach p) span l (λ s a b. letter-beyond p v s a) ∙ canonical p v
 
--- the number of occupied sites
-pub count-support : (p : Items) → valid p ≡ true → length (support (letterAt p) (reach p)) ≡ p .count
-unfolding recordOf
-count-support p v = ap (λ (q : Items). q .count) (canonical p v)
-
 -- ---- valid records with the same letters are equal
 
 pub extensional : (p q : Items) → valid p ≡ true → valid q ≡ true → ((s : ℕ) → letterAt p s ≡ letterAt q s) → p ≡ q

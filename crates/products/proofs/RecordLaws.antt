@@ -308,10 +308,6 @@ reach-most p v =
 pub letter-beyond : (p : Items) → valid p ≡ true → (s : ℕ) → reach p ≤ s → letterAt p s ≡ 0
 letter-beyond p v s h = letter-free p s (λ i l e. omega (arith, site-below-reach p v i l))
 
--- an occupied site is below the reach
-pub occupied-below-reach : (p : Items) → valid p ≡ true → (s : ℕ) → 0 < letterAt p s → s < reach p
-occupied-below-reach p v s h = let r = letter-occupied p s h in omega (arith, r .2, site-below-reach p v (r .0) (r .1))
-
 -- ---- a scan for a site from place 0 on
 
 -- none of the first i places has site s

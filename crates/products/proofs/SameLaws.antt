@@ -1,7 +1,7 @@
 -- Laws of `sameItems` and of `sameList`: each record is the same as itself, records that are the same are equal, the order of the
 -- two does not matter, one place of a comparison, and what is left to compare.
 -- Assumes nothing.
-use mathlib.Core.Path.{_≡_, refl, sym, ap, _∙_}
+use mathlib.Core.Path.{_≡_, refl, sym, _∙_}
 use mathlib.Core.List.{List, [], _∷_}
 use mathlib.Core.Bool.{Bool, true, false, _&&_}
 use Prim.Native.Nat.{ℕ, _+_, _≤_, _<_}
@@ -72,11 +72,6 @@ same-equal p q h =
     let site : p .sites ≡ q .sites = same-list-equal (p .sites) (q .sites) (and-left sites letters arrays) in
     let letter : p .letters ≡ q .letters = same-list-equal (p .letters) (q .letters) (and-right sites letters arrays) in
     λ i. record { count = count i; sites = site i; letters = letter i }
-
--- the order of the two records does not matter
-pub same-sym : (p q : Items) → sameItems p q ≡ sameItems q p
-unfolding sameItems
-same-sym p q = rw (eqb-sym (p .count) (q .count), same-list-sym (p .sites) (q .sites), same-list-sym (p .letters) (q .letters))
 
 -- ---- a loop that compares place by place
 

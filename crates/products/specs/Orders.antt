@@ -1,7 +1,7 @@
 -- The orders of products. Document 01, `cmp`.
 use Prim.Native.Nat.{ℕ, zero, suc}
 use mathlib.Core.List.{List, [], _∷_, _++_}
-use mathlib.Core.Bool.{Bool, not, cond}
+use mathlib.Core.Bool.{not, cond}
 use lib.Dec.{ltb}
 use lib.ListN.{take}
 use Rattle.refusal.specs.Refusals.{Said, gives, refuses, number, siteOf}
