@@ -1,15 +1,13 @@
 -- Laws of judging a record in one pass: a letter's bits at a site, one place more, a place that fails, and the end.
 -- Assumes nothing.
 use mathlib.Core.Path.{_≡_, refl, sym, ap, _∙_}
-use mathlib.Core.List.{[], _∷_}
 use mathlib.Core.Bool.{Bool, true, false, _&&_, cond}
-use Prim.Native.Nat.{ℕ, zero, suc, _+_, _-_, _*_, _%_, _^_, _≤_, _<_}
+use Prim.Native.Nat.{ℕ, zero, suc, _+_, _-_, _*_, _/_, _%_, _^_, _≤_, _<_}
 use native.Mathlib.Nat.{min-eq-left, le-antisymm}
 use native.Mathlib.Numerals.{add-one}
 use native.Mathlib.Omega.{arith}
 use lib.Bits.{bitXor}
 use lib.Dec.{leb, ltb, leb·zero}
-use lib.ListN.{getD}
 use lib.Pow.{shl-exact}
 use borrow.Author.Tests.{lt-ltb, le-ltb, leb-true}
 use Rattle.letters.specs.Tests.{every}
@@ -32,18 +30,18 @@ letter-bits-fit (suc (suc zero)) h = omega arith
 letter-bits-fit (suc (suc (suc zero))) h = omega arith
 letter-bits-fit (suc (suc (suc (suc l)))) h = absurd (omega arith)
 
--- the table that code has of them
-letter-bits-table : (l : ℕ) → l < 4 → getD (0 ∷ 1 ∷ 4294967297 ∷ 4294967296 ∷ []) l 0 ≡ letterBits l
+-- as code finds them
+letter-bits-found : (l : ℕ) → l < 4 → (l + l / 2) % 2 + 4294967296 * (l / 2) ≡ letterBits l
 unfolding letterBits
-letter-bits-table zero h = refl
-letter-bits-table (suc zero) h = refl
-letter-bits-table (suc (suc zero)) h = refl
-letter-bits-table (suc (suc (suc zero))) h = refl
-letter-bits-table (suc (suc (suc (suc l)))) h = absurd (omega arith)
+letter-bits-found zero h = refl
+letter-bits-found (suc zero) h = refl
+letter-bits-found (suc (suc zero)) h = refl
+letter-bits-found (suc (suc (suc zero))) h = refl
+letter-bits-found (suc (suc (suc (suc l)))) h = absurd (omega arith)
 
 -- a shift to one of 32 sites loses nothing
-pub shifted-bits : (l s : ℕ) → l < 4 → s < 32 → (getD (0 ∷ 1 ∷ 4294967297 ∷ 4294967296 ∷ []) l 0 * 2 ^ s) % 2 ^ 64 ≡ letterBits l * 2 ^ s
-shifted-bits l s h m = ap (λ (x : ℕ). (x * 2 ^ s) % 2 ^ 64) (letter-bits-table l h) ∙ shl-exact 33 s 64 (letter-bits-fit l h) (omega arith)
+pub shifted-bits : (l s : ℕ) → l < 4 → s < 32 → (((l + l / 2) % 2 + 4294967296 * (l / 2)) * 2 ^ s) % 2 ^ 64 ≡ letterBits l * 2 ^ s
+shifted-bits l s h m = ap (λ (x : ℕ). (x * 2 ^ s) % 2 ^ 64) (letter-bits-found l h) ∙ shl-exact 33 s 64 (letter-bits-fit l h) (omega arith)
 
 -- ---- the pass
 

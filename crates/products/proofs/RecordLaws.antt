@@ -89,57 +89,59 @@ all-passed n i test l m h = subst (λ (k : ℕ). every k test ≡ true) (le-anti
 or-none : (a b : ℕ) → bitOr a b ≡ 0 → (a ≡ 0) × (b ≡ 0)
 or-none a b e = let s = or-add-and a b in let l = and-le-l a b in let r = and-le-r a b in (omega arith, omega arith)
 
--- a loop that has come to i and has the bits of all places past the count together
-pub record Zeros (count : ℕ) (sites letters : List ℕ) (i rest : ℕ) : Type 0 where
+-- one is not where they are not
+or-some : {P : Type 0} (a b : ℕ) → 0 < bitOr a b → (0 < a → P) → (0 < b → P) → P
+or-some a b l p q = elim (decLt 0 b) [ yes h ↦ q h | no h ↦ p (subst (λ x. 0 < x) (same (omega arith)) l) ]
+  where
+    same : b ≡ 0 → bitOr a b ≡ a
+    same e = ap (bitOr a) e ∙ or-zero-r a
+
+-- a loop that has come to i, and has together the bits of the sites past the count, and those of the letters there
+pub record Zeros (count : ℕ) (sites letters : List ℕ) (i a b : ℕ) : Type 0 where
   pub past : count ≤ i
   pub within : i ≤ capacity
-  pub none : rest ≡ 0 → every i (placeValid count sites letters) ≡ true
-  pub some : 0 < rest → every capacity (placeValid count sites letters) ≡ false
+  pub none : a ≡ 0 → b ≡ 0 → every i (placeValid count sites letters) ≡ true
+  pub site : 0 < a → every capacity (placeValid count sites letters) ≡ false
+  pub letter : 0 < b → every capacity (placeValid count sites letters) ≡ false
 
 module _ {count : ℕ} {sites letters : List ℕ} where
-  pub zeros-none : count ≤ capacity → every count (placeValid count sites letters) ≡ true → Zeros count sites letters count 0
-  zeros-none h e = record { past = omega arith; within = h; none = λ z. e; some = λ z. absurd (omega arith) }
+  pub zeros-none : count ≤ capacity → every count (placeValid count sites letters) ≡ true → Zeros count sites letters count 0 0
+  zeros-none h e =
+      record { past = omega arith; within = h; none = λ y z. e; site = λ z. absurd (omega arith); letter = λ z. absurd (omega arith) }
 
-  module _ {i rest : ℕ} (z : Zeros count sites letters i rest) (h : i < capacity) where
+  module _ {i a b : ℕ} (z : Zeros count sites letters i a b) where
     -- a site or a letter that is not zero
-    site-there : 0 < at sites i → every capacity (placeValid count sites letters) ≡ false
+    site-there : i < capacity → 0 < at sites i → every capacity (placeValid count sites letters) ≡ false
     unfolding placeValid
-    site-there s = every-false capacity (placeValid count sites letters) i h (rw (le-ltb i count (z .past), lt-leb (at sites i) 0 s))
+    site-there h s = every-false capacity (placeValid count sites letters) i h (rw (le-ltb i count (z .past), lt-leb (at sites i) 0 s))
 
-    letter-there : 0 < at letters i → every capacity (placeValid count sites letters) ≡ false
+    letter-there : i < capacity → 0 < at letters i → every capacity (placeValid count sites letters) ≡ false
     unfolding placeValid
-    letter-there l =
+    letter-there h l =
         every-false capacity (placeValid count sites letters) i h
         (rw (le-ltb i count (z .past), le-ltb (at letters i) 1 l) (and-false (leb (at sites i) 0) false refl))
 
-    pub zeros-more : Zeros count sites letters (i + 1) (bitOr (bitOr rest (at sites i)) (at letters i))
-    zeros-more =
+    pub zeros-more : i < capacity → Zeros count sites letters (i + 1) (bitOr a (at sites i)) (bitOr b (at letters i))
+    zeros-more h =
         record {
           past = omega (arith, z .past);
           within = omega arith;
-          none = λ e.
-              let two = or-none (bitOr rest (at sites i)) (at letters i) e in
-              let one = or-none rest (at sites i) (two .0) in
-              every-more i (placeValid count sites letters) (z .none (one .0)) (place-out count sites letters i (z .past) (one .1) (two .1));
-          some = λ l. elim (decLt 0 (at letters i)) [
-            | yes q ↦ letter-there q
-            | no q ↦ elim (decLt 0 (at sites i)) [
-              | yes r ↦ site-there r
-              | no r ↦ z .some (subst (λ x. 0 < x) (zero-or (omega arith) (omega arith)) l)
-            ]
-          ];
+          none = λ e f.
+              let s = or-none a (at sites i) e in
+              let l = or-none b (at letters i) f in
+              every-more i (placeValid count sites letters) (z .none (s .0) (l .0)) (place-out count sites letters i (z .past) (s .1) (l .1));
+          site = λ l. or-some a (at sites i) l (z .site) (site-there h);
+          letter = λ l. or-some b (at letters i) l (z .letter) (letter-there h);
         }
-      where
-        zero-or : {a b : ℕ} → a ≡ 0 → b ≡ 0 → bitOr (bitOr rest a) b ≡ rest
-        zero-or {a} {b} p q = ap (bitOr (bitOr rest a)) q ∙ or-zero-r (bitOr rest a) ∙ ap (bitOr rest) p ∙ or-zero-r rest
 
-  pub zeros-done : {i rest : ℕ} → Zeros count sites letters i rest → capacity ≤ i → eqb rest 0 ≡ every capacity (placeValid count sites letters)
-  zeros-done {i} {rest} z m = go rest (z .none) (z .some)
-    where
-      go : (r : ℕ) → (r ≡ 0 → every i (placeValid count sites letters) ≡ true) → (0 < r → every capacity (placeValid count sites letters) ≡ false)
-          → eqb r 0 ≡ every capacity (placeValid count sites letters)
-      go zero none some = sym (all-passed capacity i (placeValid count sites letters) (z .within) m (none refl))
-      go (suc r) none some = ne-eqb (suc r) 0 (λ e. omega arith) ∙ sym (some (omega arith))
+    pub zeros-done : capacity ≤ i → eqb (bitOr a b) 0 ≡ every capacity (placeValid count sites letters)
+    zeros-done m = go (bitOr a b) refl
+      where
+        go : (r : ℕ) → bitOr a b ≡ r → eqb r 0 ≡ every capacity (placeValid count sites letters)
+        go zero e =
+            let o = or-none a b e in
+            sym (all-passed capacity i (placeValid count sites letters) (z .within) m (z .none (o .0) (o .1)))
+        go (suc r) e = ne-eqb (suc r) 0 (λ f. omega arith) ∙ sym (or-some a b (omega arith) (z .site) (z .letter))
 
 -- where the count and the lengths are as they should be, the places decide
 pub places-decide : (p : Items) → length (p .sites) ≡ capacity → length (p .letters) ≡ capacity → p .count ≤ capacity

@@ -91,29 +91,29 @@ fn fits_next(low: u8, site: Site, letter: u8) -> bool
     low <= site
 }
 
-// Whether zeros stand past the count, of a record that is valid below it. No way out of the loop before its end: it is quicker so.
-fn zeros_past(p: Items) -> bool
-    requires { ⌜ (p .count ≤ 31) × (every (p .count) (placeValid (p .count) (p .sites) (p .letters)) ≡ true) ⌝ }
-    ensures { λ r. ⌜ r ≡ valid p ⌝ }
+// Whether zeros stand past the count, of arrays that are valid below it. No way out of the loop before its end: it is quicker so.
+fn zeros_past<'a>(count: usize, sites: &'a [Site; 31], letters: &'a [u8; 31]) -> bool
+    requires { ⌜ (count ≤ 31) × (every count (placeValid count (now sites) (now letters)) ≡ true) ⌝ }
+    ensures { λ r. ⌜ r ≡ every 31 (placeValid count (now (sites .entry)) (now (letters .entry))) ⌝ }
 {
-    let mut rest: u8 = 0;
-    let mut i = p.count;
+    let mut site_bits: u8 = 0;
+    let mut letter_bits: u8 = 0;
+    let mut i = count;
     while i < CAPACITY {
-        rest = rest | p.sites[i] | p.letters[i];
+        site_bits = site_bits | sites[i];
+        letter_bits = letter_bits | letters[i];
         i += 1;
     }
-    rest == 0
+    (site_bits | letter_bits) == 0
 }
 
-// The bits of the letters at site 0: X turns its bit over, Z gives it a sign, Y does both.
-const LETTER_BITS: [u64; 4] = [0, 1, 4294967297, 4294967296];
-
-// The bits of a letter at its site.
+// The bits of a letter at its site: X turns its bit over, Z gives it a sign, Y does both.
 fn bits_at(site: Site, letter: u8) -> u64
     ensures { λ r. ⌜ r ≡ letterBits (letter % 4) * 2 ^ (site % 32) ⌝ }
 {
-    let k = (letter % 4) as usize;
-    LETTER_BITS[k] << ((site % 32) as u32)
+    let l = (letter % 4) as u64;
+    let turn = (l + l / 2) % 2;
+    (turn + 4294967296 * (l / 2)) << ((site % 32) as u32)
 }
 
 // What number 0 says of a record, and the masks of one that it lets pass.
@@ -149,7 +149,7 @@ pub fn judged(p: Items) -> Verdict
         low = site + 1;
         i += 1;
     }
-    if !zeros_past(p) {
+    if !zeros_past(count, &p.sites, &p.letters) {
         return Verdict {
             valid: false,
             masks: 0,
@@ -209,7 +209,7 @@ pub fn is_empty(p: Items) -> bool
     if p.count != 0 {
         return false;
     }
-    zeros_past(p)
+    zeros_past(p.count, &p.sites, &p.letters)
 }
 
 // How many places a record with such a count has letters on: at most the capacity.

@@ -1,4 +1,4 @@
--- `items::bits_at`: the table holds the letters' bits, and a shift to a site loses nothing.
+-- `items::bits_at`: the two bits of a letter, and a shift to its site, which loses nothing.
 -- Assumes nothing.
 use native.Mathlib.Nat.{mod-lt}
 use native.Mathlib.Omega.{arith}
@@ -7,14 +7,17 @@ use Rattle.products.proofs.JudgedLaws.{shifted-bits}
 use Rattle.products.proofs.items.bits_at.Statement.{statement}
 use Rattle.products.proofs.items.bits_at.Tie as tie
 
-cast-k : tie.Need-cast-k
-cast-k c = search needs
+cast-l : tie.Need-cast-l
+cast-l c = search needs
+
+add-turn : tie.Need-add-turn
+add-turn c = search needs
 
 mul-result : tie.Need-mul-result
 mul-result c = search needs
 
-array-read-result : tie.Need-array-read-result
-array-read-result c = search needs
+add-result : tie.Need-add-result
+add-result c = search needs
 
 cast-result : tie.Need-cast-result
 cast-result c = search needs
@@ -31,4 +34,4 @@ returns c = shifted-bits _ _ (mod-lt _ (omega arith)) (mod-lt _ (omega arith))
 pub bits-at-spec : {M : Type 1} → statement M
 bits-at-spec =
     tie.close
-    (tie.spec cast-k mul-result array-read-result cast-result cast-result-2 shl-result returns)
+    (tie.spec cast-l add-turn mul-result add-result cast-result cast-result-2 shl-result returns)

@@ -6,7 +6,7 @@ use Prim.Native.Nat.{_-_}
 use native.Mathlib.Omega.{arith}
 use borrow.Author.Needs.{needs}
 use borrow.Author.Tests.{not-true, not-false}
-use Rattle.products.proofs.RecordLaws.{many-invalid}
+use Rattle.products.proofs.RecordLaws.{many-invalid, places-decide}
 use Rattle.products.proofs.JudgedLaws.{Judging, judging-none, judging-failed, judging-site, judging-more, judging-done, judging-masks, refused-verdict, passed-verdict}
 use Rattle.products.proofs.items.judged.Statement.{statement}
 use Rattle.products.proofs.items.judged.Tie as tie
@@ -60,15 +60,19 @@ loop-again c =
     judging-more (l .before .loop .inv) (l .loop-test .taken) (f .before .fits-next .ensures) (not-false _ (f .if2 .left)) (c .bits-at .ensures)
 
 zeros-past-requires : tie.Need-zeros-past-requires Inv-loop μ-loop
-zeros-past-requires c κs = judging-done (c .before .loop .inv) (c .loop-test .left)
+zeros-past-requires c κs = judging-done (c .before .before .before .before .loop .inv) (c .before .before .before .loop-test .left)
 
 returns-3 : tie.Need-returns-3 Inv-loop μ-loop
-returns-3 c = refused-verdict _ (sym (not-true _ (c .if3 .taken)) ∙ c .before .zeros-past .ensures)
+returns-3 c =
+    let l = c .before .before .before .before .before in
+    let told = c .before .zeros-past .ensures ∙ sym (places-decide (l .before .before .before .args .t1) (search needs) (search needs) (l .before .loop .inv .few)) in
+    refused-verdict _ (sym (not-true _ (c .if3 .taken)) ∙ told)
 
 returns-4 : tie.Need-returns-4 Inv-loop μ-loop
 returns-4 c =
-    let l = c .before .before in
-    passed-verdict _ (sym (not-false _ (c .if3 .left)) ∙ c .before .zeros-past .ensures) (judging-masks (l .before .loop .inv) (l .loop-test .left))
+    let l = c .before .before .before .before .before in
+    let told = c .before .zeros-past .ensures ∙ sym (places-decide (l .before .before .before .args .t1) (search needs) (search needs) (l .before .loop .inv .few)) in
+    passed-verdict _ (sym (not-false _ (c .if3 .left)) ∙ told) (judging-masks (l .before .loop .inv) (l .loop-test .left))
 
 pub judged-spec : {M : Type 1} → statement M
 judged-spec =
