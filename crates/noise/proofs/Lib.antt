@@ -1,5 +1,6 @@
 pub mod SetLaws
 pub mod ValidLaws
+pub mod MaskedLaws
 pub mod FullLaws
 pub mod RemapLaws
 pub mod NoiseTheorems

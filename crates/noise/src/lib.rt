@@ -5,4 +5,4 @@ pub mod noise_set;
 mod numbers;
 pub mod pauli_noise_operator;
 pub mod remap;
-mod valid_pairs;
+pub mod valid_pairs;

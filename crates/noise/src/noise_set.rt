@@ -10,8 +10,7 @@ ghost use Rattle.terms.specs.Setting.{keyed, coefficientAt, write, hasRoom};
 ghost use Rattle.operators.specs.Answers.{saidGet, saidSet};
 ghost use Rattle.noise.specs.Pairs.{pairTerms, blank, heldBy, filled, validSet};
 ghost use Rattle.noise.specs.Answers.{validKey, emptySide, toldSet, told, getPair, setPair, addPair};
-use crate::valid_pairs::all_good;
-use crate::valid_pairs::blanks_past;
+use crate::valid_pairs::masked;
 use complex::Complex;
 use operators::term_set::GetAnswer;
 use operators::term_set::SetAnswer;
@@ -74,7 +73,7 @@ fn has_key(t: NoiseTerm, left: Items, right: Items) -> bool
 }
 
 // The place of the first term with a key, from a place on; the count where there is none.
-pub(crate) fn find_from(s: NoiseSet, from: usize, left: Items, right: Items) -> usize
+fn find_from(s: NoiseSet, from: usize, left: Items, right: Items) -> usize
     requires { ⌜ (s .count ≤ 64) × (from ≤ s .count) ⌝ }
     ensures { λ r. ⌜ r ≡ from + firstAt (keyed pairTerms (left, right)) (drop from (heldBy s)) ⌝ }
 {
@@ -183,7 +182,7 @@ fn was(s: NoiseSet, left: Items, right: Items) -> SetAnswer
 }
 
 // Whether both products of a key are valid.
-pub(crate) fn valid_key(left: Items, right: Items) -> bool
+fn valid_key(left: Items, right: Items) -> bool
     ensures { λ r. ⌜ r ≡ validKey (left, right) ⌝ }
 {
     if products::items::is_valid(left) {
@@ -206,13 +205,8 @@ pub(crate) fn empty_side(left: Items, right: Items) -> bool
 pub fn is_valid(s: NoiseSet) -> bool
     ensures { λ r. ⌜ r ≡ validSet s ⌝ }
 {
-    if 64 < s.count {
-        return false;
-    }
-    if all_good(s) {
-        return blanks_past(s);
-    }
-    false
+    let v = masked(s);
+    v.valid
 }
 
 // The coefficient under a key.

@@ -1,22 +1,31 @@
-// Whether number 0 lets a noise set pass: its held terms, and the zero records past them.
+// Whether number 0 lets a noise set pass: its held terms, and the zero records past them; and the masks of those terms.
 ghost use mathlib.Core.Path.{_≡_};
-ghost use mathlib.Core.Bool.{not, _&&_};
-ghost use Prim.Native.Nat.{_+_, _<_, _≤_};
-ghost use lib.ListN.{getD, drop};
+ghost use mathlib.Core.Bool.{not, _&&_, cond};
+ghost use Prim.Native.Nat.{_≤_};
+ghost use lib.ListN.{drop};
 ghost use Rattle.complex.specs.Complex.{isZero, inRange};
 ghost use Rattle.products.specs.Record.{valid};
 ghost use Rattle.products.specs.Verdicts.{judgedMasks};
 ghost use Rattle.terms.specs.Keyed.{each};
-ghost use Rattle.noise.specs.Pairs.{blank, heldBy, goodKey, goodCoefficient, goodTerm, isBlank};
+ghost use Rattle.noise.specs.Pairs.{heldBy, goodKey, goodCoefficient, goodTerm, isBlank};
+ghost use Rattle.noise.specs.PairMasks.{heldMasks, noMasks, pairMasks};
 use crate::noise_set::NoiseSet;
 use crate::noise_set::NoiseTerm;
 use crate::noise_set::empty_side;
-use crate::noise_set::find_from;
-use crate::noise_set::valid_key;
 use crate::numbers::is_new_marked;
 use crate::numbers::mark_of;
 use complex::Complex;
 use products::items::Items;
+
+// What number 0 says of a noise set; of a valid one its count, and each term's masks and coefficient.
+pub struct PairMasks {
+    pub valid: bool,
+    pub count: usize,
+    pub lefts: [u64; 64],
+    pub rights: [u64; 64],
+    pub re: [f64; 64],
+    pub im: [f64; 64],
+}
 
 // Whether a record is the zero record.
 fn is_blank(t: NoiseTerm) -> bool
@@ -45,43 +54,6 @@ fn good_coefficient(c: Complex) -> bool
         return false;
     }
     !c.is_zero()
-}
-
-// Whether the term at a place is as a valid set holds it.
-fn good_term(s: NoiseSet, i: usize) -> bool
-    requires { ⌜ (s .count ≤ 64) × (i < s .count) ⌝ }
-    ensures { λ r. ⌜ r ≡ goodTerm (getD (heldBy s) i blank) (drop (i + 1) (heldBy s)) ⌝ }
-{
-    let t = s.terms[i];
-    let p = t.left;
-    let q = t.right;
-    let c = t.coefficient;
-    if !valid_key(p, q) {
-        return false;
-    }
-    if empty_side(p, q) {
-        return false;
-    }
-    if !good_coefficient(c) {
-        return false;
-    }
-    find_from(s, i + 1, p, q) == s.count
-}
-
-// Whether every held term is.
-fn good_terms(s: NoiseSet) -> bool
-    requires { ⌜ s .count ≤ 64 ⌝ }
-    ensures { λ r. ⌜ r ≡ each goodTerm (heldBy s) ⌝ }
-{
-    let n = s.count;
-    let mut i = 0;
-    while i < n {
-        if !good_term(s, i) {
-            return false;
-        }
-        i += 1;
-    }
-    true
 }
 
 // Whether a term is as a valid set holds it, but for the keys of the others, where number 0 of its products is told.
@@ -124,37 +96,63 @@ fn judged_alone(t: NoiseTerm) -> PairVerdict
     }
 }
 
-// The same answer by the numbers of the keys: terms with different numbers have different keys, and only where two numbers repeat
-// are the keys compared.
-pub(crate) fn all_good(s: NoiseSet) -> bool
+// The answer on a set that number 0 does not let pass.
+fn refused() -> PairMasks
+    ensures { λ r. ⌜ r ≡ noMasks ⌝ }
+{
+    PairMasks {
+        valid: false,
+        count: 0,
+        lefts: [0; 64],
+        rights: [0; 64],
+        re: [0.0; 64],
+        im: [0.0; 64],
+    }
+}
+
+// The held terms' masks and coefficients, where every held term is good. Good terms with the same two numbers have one key, so numbers
+// that repeat are refused.
+fn gathered(s: NoiseSet) -> PairMasks
     requires { ⌜ s .count ≤ 64 ⌝ }
-    ensures { λ r. ⌜ r ≡ each goodTerm (heldBy s) ⌝ }
+    ensures { λ r. ⌜ r ≡ cond (each goodTerm (heldBy s)) (heldMasks s) noMasks ⌝ }
 {
     let n = s.count;
     let mut lefts = [0u64; 64];
     let mut rights = [0u64; 64];
+    let mut re = [0.0; 64];
+    let mut im = [0.0; 64];
     let mut marks = [0u8; 256];
     let mut i: usize = 0;
     while i < n {
         let t = s.terms[i];
         let v = judged_alone(t);
         if !v.good {
-            return false;
+            return refused();
         }
         if !is_new_marked(&marks, &lefts, &rights, i, v.left, v.right) {
-            return good_terms(s);
+            return refused();
         }
+        let c = t.coefficient;
         lefts[i] = v.left;
         rights[i] = v.right;
+        re[i] = c.re;
+        im[i] = c.im;
         let at = mark_of(v.left, v.right);
         marks[at] = 1;
         i += 1;
     }
-    true
+    PairMasks {
+        valid: true,
+        count: n,
+        lefts: lefts,
+        rights: rights,
+        re: re,
+        im: im,
+    }
 }
 
 // Whether zero records stand past the count.
-pub(crate) fn blanks_past(s: NoiseSet) -> bool
+fn blanks_past(s: NoiseSet) -> bool
     requires { ⌜ s .count ≤ 64 ⌝ }
     ensures { λ r. ⌜ r ≡ each (λ t ts. isBlank t) (drop (s .count) (s .terms)) ⌝ }
 {
@@ -167,4 +165,20 @@ pub(crate) fn blanks_past(s: NoiseSet) -> bool
         i += 1;
     }
     true
+}
+
+// A noise set judged by number 0: of a valid one the count and each term's masks and coefficient, zeros past them.
+pub fn masked(s: NoiseSet) -> PairMasks
+    ensures { λ r. ⌜ r ≡ pairMasks s ⌝ }
+{
+    let n = s.count;
+    if 64 < n {
+        return refused();
+    }
+    if n < 64 {
+        if !blanks_past(s) {
+            return refused();
+        }
+    }
+    gathered(s)
 }
