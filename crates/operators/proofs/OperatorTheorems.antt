@@ -1,26 +1,25 @@
 -- What the chains on sets mean, over Gaussian coefficients and any n spins above every site: the product of matrices, the conjugate transpose,
 -- the same matrix in other letters, a multiple, and for setting and adding what they say. The chains are those that the entries run on f64.
 -- Assumes nothing.
-use mathlib.Core.Path.{_≡_, refl, sym, ap, ap₂, _∙_}
-use mathlib.Core.Bool.{Bool, true, not, cond}
-use mathlib.Core.List.{List, [], _∷_}
+use mathlib.Core.Path.{_≡_, sym, ap, _∙_}
+use mathlib.Core.Bool.{true}
+use mathlib.Core.List.{List, []}
 use mathlib.Core.Option.{some}
-use Prim.Native.Nat.{ℕ, _^_, _≤_}
-use native.Mathlib.Omega.{arith}
-use Rattle.refusal.specs.Refusals.{Said, done}
-use Rattle.letters.specs.Gauss.{G, 𝟘, _⊕_, _⊗_, conj, i^}
+use Prim.Native.Nat.{ℕ, _^_}
+use Rattle.refusal.specs.Refusals.{done}
+use Rattle.letters.specs.Gauss.{G, _⊕_, _⊗_, conj}
 use Rattle.letters.specs.Sums.{Σ}
 use Rattle.letters.specs.Matrices.{Letters, lettersOf, matrix}
 use Rattle.letters.specs.Answers.{other}
 use Rattle.letters.specs.declared.Kind.{Kind}
 use Rattle.letters.proofs.GaussLaws.{𝟘-⊕}
-use Rattle.products.specs.Record.{valid, letterAt, reach, reachOf, sameItems}
+use Rattle.products.specs.Record.{valid, letterAt, reach, sameItems}
 use Rattle.products.specs.Answers.{multiplyAnswer, conjugateAnswer, convertAnswer}
 use Rattle.products.specs.declared.items.Items.{Items}
 use Rattle.products.proofs.ListLaws.{larger-most}
 use Rattle.products.proofs.SameLaws.{same-equal}
 use Rattle.products.proofs.ProductTheorems.{multiply-theorem, conjugate-theorem, convert-theorem}
-use Rattle.terms.specs.Gaussian.{gaussian, gaussianProducts, weighted, summed}
+use Rattle.terms.specs.Gaussian.{gaussianProducts, weighted, summed}
 use Rattle.terms.specs.Setting.{coefficientAt, write, added, addAll}
 use Rattle.terms.specs.Chains.{timesTerms, conjugateTerms, convertTerms, scaledTerms}
 use Rattle.terms.proofs.KeyedLaws.{All}

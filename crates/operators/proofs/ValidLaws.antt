@@ -2,7 +2,7 @@
 -- Assumes nothing.
 use Prim.Native.Nat.{_≤_}
 use mathlib.Core.Path.{_≡_, refl, ap}
-use mathlib.Core.Bool.{Bool, true, false, not, _&&_, _||_}
+use mathlib.Core.Bool.{Bool, true, false, not, _&&_}
 use mathlib.Core.List.{[]}
 use Rattle.letters.proofs.TestLaws.{and-true, and-left, and-right}
 use Rattle.complex.specs.Complex.{isZero, inRange, isPlusZero}

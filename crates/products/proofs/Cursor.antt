@@ -1,17 +1,17 @@
 -- A pass over the places of a product, lowest site first: what is known between two places, and running totals.
 -- Assumes nothing.
-use mathlib.Core.Path.{_≡_, refl, sym, ap, ap₂, _∙_}
+use mathlib.Core.Path.{_≡_, sym, ap}
 use mathlib.Core.Bool.{true}
 use mathlib.Core.Logic.{⊎-elim}
 use Prim.Native.Nat.{ℕ, zero, suc, _+_, _≤_, _<_}
-use native.Mathlib.Decide.{ℕ-discrete, decLt}
+use native.Mathlib.Decide.{decLt}
 use native.Mathlib.Nat.{eq-or-lt-of-le}
 use native.Mathlib.Omega.{arith}
 use Rattle.letters.specs.Sums.{total}
 use Rattle.products.specs.Lists.{at}
-use Rattle.products.specs.Record.{valid, letterAt, reach}
+use Rattle.products.specs.Record.{valid, letterAt}
 use Rattle.products.specs.declared.items.Items.{Items}
-use Rattle.products.proofs.RecordLaws.{ascending, letter-here, letter-free, site-below-reach, letter-beyond}
+use Rattle.products.proofs.RecordLaws.{ascending, letter-free}
 
 -- the places below i have sites below b, and those from i on have sites from b on
 pub record Cursor (p : Items) (i b : ℕ) : Type 0 where

@@ -1,9 +1,9 @@
 -- Valid records with the same masks are the same: the masks of a valid record have two bits of each letter at its site, and these tell the letters apart.
 -- Assumes nothing.
 use mathlib.Core.Path.{_≡_, refl, sym, ap, ap₂, _∙_}
-use mathlib.Core.Bool.{Bool, true, false, _&&_, cond}
+use mathlib.Core.Bool.{Bool, true, false, cond}
 use mathlib.Core.Logic.{⊎-elim}
-use Prim.Native.Nat.{ℕ, zero, suc, _+_, _*_, _/_, _%_, _^_, _≤_, _<_}
+use Prim.Native.Nat.{ℕ, zero, suc, _+_, _*_, _/_, _%_, _^_, _<_}
 use native.Mathlib.Nat.{eq-or-lt-of-le}
 use native.Mathlib.Omega.{arith}
 use lib.Dec.{eqb, ltb}
@@ -12,7 +12,7 @@ use Rattle.letters.specs.Tests.{every}
 use Rattle.letters.specs.Sums.{total}
 use Rattle.letters.proofs.TestLaws.{and-left, and-right, every-at}
 use Rattle.letters.proofs.BitLaws.{binary-lt, eqb-parts}
-use Rattle.products.specs.Record.{capacity, valid, letterAt, reach}
+use Rattle.products.specs.Record.{capacity, valid, letterAt}
 use Rattle.products.specs.Masks.{letterBits, masksOf, flipOf, signOf}
 use Rattle.products.specs.declared.items.Items.{Items}
 use Rattle.products.proofs.RecordLaws.{letter-beyond, reach-most}

@@ -4,14 +4,14 @@ use mathlib.Core.Path.{_≡_, refl, sym, ap, ap₂, _∙_, subst}
 use mathlib.Core.Bool.{Bool, true, false, not, cond}
 use mathlib.Core.List.{List, [], _∷_}
 use mathlib.Core.Logic.{_⊎_, inl, inr, ⊎-elim}
-use Prim.Native.Nat.{ℕ, zero, suc, _+_, _-_, _%_, _^_, _≤_, _<_}
+use Prim.Native.Nat.{ℕ, suc, _+_, _-_, _%_, _^_, _≤_, _<_}
 use native.Mathlib.Decide.{decLt}
 use native.Mathlib.Omega.{arith}
 use lib.Dec.{ltb, leb, eqb}
 use borrow.Author.Tests.{ltb-false, leb-false, ne-eqb, not-false}
 use Rattle.refusal.specs.Refusals.{Said, gives, refuses, done}
 use Rattle.letters.specs.Tests.{firstFrom}
-use Rattle.letters.specs.Gauss.{G, 𝟘, _⊗_, conj, i^}
+use Rattle.letters.specs.Gauss.{𝟘, _⊗_, conj, i^}
 use Rattle.letters.specs.Sums.{Σ, total}
 use Rattle.letters.specs.Matrices.{Letters, lettersOf, matrix}
 use Rattle.letters.specs.Single.{letterOf, powerOf, times, conjugated, converted}
@@ -19,7 +19,7 @@ use Rattle.letters.specs.Rows.{columnOf, rowPower}
 use Rattle.letters.specs.declared.Kind.{Kind}
 use Rattle.letters.specs.Answers.{other}
 use Rattle.letters.proofs.TestLaws.{first-before}
-use Rattle.letters.proofs.TableLaws.{Closed, Converts, closed, converts}
+use Rattle.letters.proofs.TableLaws.{closed, converts}
 use Rattle.letters.proofs.Letterings.{matrix-same, multiply-matrix, conjugate-matrix, convert-matrix, join-matrix, row-matrix, columnOf-lt, HasIdentity}
 use Rattle.letters.proofs.Codes.{conjugated-plain, converted-plain}
 use Rattle.products.specs.Lists.{at, larger}

@@ -3,15 +3,12 @@
 -- Assumes nothing.
 use Prim.Native.Nat.{ℕ, zero, suc, _+_, _<_}
 use native.Mathlib.Nat.{le-of-suc-le-suc, not-suc-le-zero}
-use native.Mathlib.Omega.{arith}
-use mathlib.Core.Path.{_≡_, refl, sym, ap, _∙_}
-use mathlib.Core.Bool.{Bool, true, not}
+use mathlib.Core.Path.{_≡_, refl}
+use mathlib.Core.Bool.{Bool, true}
 use mathlib.Core.List.{List, [], _∷_, _++_, map}
-use lib.Dec.{eqb}
-use lib.ListN.{length, getD, drop, replicate, length-drop}
-use borrow.Author.Tests.{eq-eqb, ne-eqb}
-use Rattle.terms.specs.Keyed.{firstAt, has, each, concatMap}
-use Rattle.terms.proofs.KeyedLaws.{each-cons, each-head, each-tail, has-true, has-false, by-test, All, all-nil, all-cons, all-head, all-tail}
+use lib.ListN.{length, getD, replicate}
+use Rattle.terms.specs.Keyed.{each, concatMap}
+use Rattle.terms.proofs.KeyedLaws.{each-cons, each-head, each-tail, All, all-nil, all-cons, all-head, all-tail}
 
 module _ {A : Type 0} where
   -- what is read past the end does not matter below it
@@ -38,14 +35,6 @@ module _ {A : Type 0} where
   unfolding each
   each-run p z e zero = refl
   each-run p z e (suc n) = each-cons (λ x xs. p x) z (replicate n z) e (each-run p z e n)
-
-  -- a search past the place i that ends at the count n says that no later element has the key
-  pub not-again : (test : A → Bool) (l : List A) (i n : ℕ) → length l ≡ n → i < n → eqb (i + 1 + firstAt test (drop (i + 1) l)) n ≡ not (has test (drop (i + 1) l))
-  not-again test l i n long h =
-      let k = length-drop (i + 1) l in
-      by-test (has test (drop (i + 1) l))
-      (λ e. let f = has-true test (drop (i + 1) l) e in ne-eqb (i + 1 + firstAt test (drop (i + 1) l)) n (λ g. omega arith) ∙ ap not (sym e))
-      (λ e. let f = has-false test (drop (i + 1) l) e in eq-eqb (i + 1 + firstAt test (drop (i + 1) l)) n (omega arith) ∙ ap not (sym e))
 
 -- ---- results
 

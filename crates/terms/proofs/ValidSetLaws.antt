@@ -1,18 +1,18 @@
 -- Valid sets, for any kind of set: what a valid one holds, the tests of the term at a place, that good terms make a valid set, what an entry or a
 -- chain of additions leaves.
 -- Assumes nothing.
-use Prim.Native.Nat.{ℕ, _+_, _≤_, _<_}
+use Prim.Native.Nat.{_≤_}
 use native.Mathlib.Omega.{arith}
 use mathlib.Core.Path.{_≡_, refl, sym, ap, _∙_}
 use mathlib.Core.Bool.{Bool, true, false, not, _&&_}
 use mathlib.Core.List.{List, []}
 use mathlib.Core.Option.{some}
-use lib.Dec.{leb, eqb}
-use lib.ListN.{length, drop, getD}
+use lib.Dec.{leb}
+use lib.ListN.{length, drop}
 use borrow.Author.Tests.{not-true}
-use Rattle.terms.specs.Keyed.{firstAt, each}
+use Rattle.terms.specs.Keyed.{each}
 use Rattle.terms.specs.Kind.{Terms}
-use Rattle.terms.specs.Setting.{mostTerms, keyed, write, hasRoom, added, addAll}
+use Rattle.terms.specs.Setting.{mostTerms, write, hasRoom, added, addAll}
 use Rattle.terms.specs.Places.{goodTerm, validPlaces}
 use Rattle.terms.specs.Entries.{allInRange, setIn, addIn, collected}
 use Rattle.terms.proofs.KeyedLaws.{All}
@@ -91,23 +91,6 @@ module _ {K N R : Type 0} {S : Terms K N} (W : ValidSets S R) where
 
     pub valid-different : each (different S) (terms s) ≡ true
     valid-different = good.good-differents S (W .goodKey) (W .goodCoefficient) (terms s) (valid-parts s e .good)
-
-  -- ---- the term at a place, which code reads as `getD (s .terms) i d`
-
-  module _ (s : R) (i : ℕ) (d : S .Term) (whole : length (W .sets .places s) ≡ mostTerms) (few : W .sets .count s ≤ mostTerms) (h : i < W .sets .count s) where
-    -- its key is not good
-    pub bad-key : W .goodKey (S .key (getD (W .sets .places s) i d)) ≡ false → false ≡ fine (getD (terms s) i (W .sets .blank)) (drop (i + 1) (terms s))
-    bad-key = good.bad-key S (W .goodKey) (W .goodCoefficient) (W .sets .blank) (W .sets .count s) (W .sets .places s) i d whole few h
-
-    -- its coefficient is not good
-    pub bad-coefficient : W .goodCoefficient (S .coefficient (getD (W .sets .places s) i d)) ≡ false → false ≡ fine (getD (terms s) i (W .sets .blank)) (drop (i + 1) (terms s))
-    bad-coefficient = good.bad-coefficient S (W .goodKey) (W .goodCoefficient) (W .sets .blank) (W .sets .count s) (W .sets .places s) i d whole few h
-
-    -- both are good: the search for its key past its place answers r
-    pub by-key : W .goodKey (S .key (getD (W .sets .places s) i d)) ≡ true → W .goodCoefficient (S .coefficient (getD (W .sets .places s) i d)) ≡ true
-        → (r : ℕ) → r ≡ i + 1 + firstAt (keyed S (S .key (getD (W .sets .places s) i d))) (drop (i + 1) (terms s))
-        → eqb r (W .sets .count s) ≡ fine (getD (terms s) i (W .sets .blank)) (drop (i + 1) (terms s))
-    by-key = good.by-key S (W .goodKey) (W .goodCoefficient) (W .sets .blank) (W .sets .count s) (W .sets .places s) i d whole few h
 
   -- ---- good terms make a valid set
 

@@ -1,6 +1,6 @@
 -- `DecoherenceProduct::decoherence_to_spin` meets its contract: that of the function on items, with the power of i as a factor.
 -- Assumes nothing.
-use mathlib.Core.Path.{ap, ap₂, _∙_}
+use mathlib.Core.Path.{ap}
 use borrow.Author.Needs.{needs}
 use Rattle.letters.specs.Matrices.{lettersOf}
 use Rattle.products.specs.Kinds.{withFactor}
