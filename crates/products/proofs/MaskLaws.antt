@@ -1,17 +1,17 @@
 -- The masks of a record: a letter's bits as the table and a shift give them, the pass over the places,
 -- and, of a valid record, the masks site by site. Assumes nothing.
 use mathlib.Core.Path.{_≡_, refl, sym, ap, ap₂, _∙_}
-use mathlib.Core.Bool.{true, _&&_}
+use mathlib.Core.Bool.{Bool, true, false, _&&_}
 use mathlib.Core.List.{List, [], _∷_}
-use Prim.Native.Nat.{ℕ, zero, suc, _+_, _*_, _/_, _%_, _^_, _≤_, _<_, min}
-use native.Mathlib.Nat.{mod-lt, mod-eq-of-lt, le-antisymm, min-eq-left, add-comm, add-mul, mul-right-comm}
+use Prim.Native.Nat.{ℕ, zero, suc, _+_, _-_, _*_, _/_, _%_, _^_, _≤_, _<_, min}
+use native.Mathlib.Nat.{mod-lt, mod-eq-of-lt, le-antisymm, min-eq-left, add-comm, add-mul, mul-le-mul-right, mul-right-comm}
 use native.Mathlib.Numerals.{add-one}
 use native.Mathlib.Omega.{arith}
-use lib.Dec.{eqb, ltb}
+use lib.Dec.{eqb, ltb, leb}
 use lib.ListN.{getD}
 use lib.Pow.{pow-mono, shl-exact, shl-lt, split, high, low}
 use lib.Bits.{bitXor, xor-comm, xor-shifted, xor-block}
-use borrow.Author.Tests.{eqb-true, ltb-true}
+use borrow.Author.Tests.{eqb-true, ltb-true, ltb-false, leb-true}
 use Rattle.letters.specs.Tests.{every}
 use Rattle.letters.specs.Sums.{total}
 use Rattle.letters.proofs.TestLaws.{and-left, and-right, every-at}
@@ -20,7 +20,7 @@ use Rattle.products.specs.Lists.{at}
 use Rattle.products.specs.Record.{capacity, valid, letterAt, reach}
 use Rattle.products.specs.Masks.{letterBits, masksIn, masksOf, flipOf, signOf}
 use Rattle.products.specs.declared.items.Items.{Items}
-use Rattle.products.proofs.RecordLaws.{valid-at, valid-shape, letter-code, letter-here, letter-beyond, site-below-reach, reach-most}
+use Rattle.products.proofs.RecordLaws.{valid-at, valid-shape, letter-code, letter-here, letter-beyond, reach-none, reach-last, site-below-reach, reach-most}
 use Rattle.products.proofs.Cursor.{Cursor, cursor-none, cursor-gap, cursor-end, cursor-pass, total-above, total-site}
 
 -- ---- a letter's bits
@@ -86,6 +86,22 @@ flip-lt l h = ltb-true _ _ (and-left (ltb (flipBit l) 2) (ltb (signBit l) 2) (ev
 
 pub sign-lt : (l : ℕ) → l < 4 → signBit l < 2
 sign-lt l h = ltb-true _ _ (and-right (ltb (flipBit l) 2) (ltb (signBit l) 2) (every-at 4 (λ l. ltb (flipBit l) 2 && ltb (signBit l) 2) bits-single l h))
+
+-- a letter has a bit in one half at least
+bits-there : every 4 (λ l. leb l (3 * (flipBit l + signBit l))) ≡ true
+unfolding letterBits every
+bits-there = refl
+
+bits-of-letter : (l : ℕ) → l < 4 → l ≤ 3 * (flipBit l + signBit l)
+bits-of-letter l h = leb-true _ _ (every-at 4 (λ l. leb l (3 * (flipBit l + signBit l))) bits-there l h)
+
+-- a bit at the place n or above doesn't fit below 2^n
+bit-below : (x s n : ℕ) → n ≤ s → x * 2 ^ s < 2 ^ n → x ≡ 0
+bit-below zero s n h l = refl
+bit-below (suc x) s n h l =
+    let one : 1 * 2 ^ s ≤ suc x * 2 ^ s = mul-le-mul-right (2 ^ s) (omega arith) in
+    let most : 2 ^ n ≤ 2 ^ s = pow-mono h in
+    absurd (omega arith)
 
 -- the masks of a lettering over n spins
 abbrev pub flips : (ℕ → ℕ) → ℕ → ℕ
@@ -194,10 +210,31 @@ module _ (p : Items) (v : valid p ≡ true) where
       let most : 2 ^ reach p ≤ 2 ^ 31 = pow-mono {j = 31} (omega (arith, reach-most p v)) in
       omega (arith, flips-lt (reach p))
 
-  pub flips-masked : (n : ℕ) → reach p ≤ n → flipOf p ≡ flips (letterAt p) n
+  pub flips-masked : (n : ℕ) → reach p ≤ n → flipOf (masksOf p) ≡ flips (letterAt p) n
   unfolding flipOf
   flips-masked n in-n = ap (λ (x : ℕ). x % 2 ^ 32) (masks-placed n in-n) ∙ low (signs (letterAt p) n) 32 (flips-low n in-n)
 
-  pub signs-masked : (n : ℕ) → reach p ≤ n → signOf p ≡ signs (letterAt p) n
+  pub signs-masked : (n : ℕ) → reach p ≤ n → signOf (masksOf p) ≡ signs (letterAt p) n
   unfolding signOf
   signs-masked n in-n = ap (λ (x : ℕ). x / 2 ^ 32) (masks-placed n in-n) ∙ high (signs (letterAt p) n) 32 (flips-low n in-n)
+
+  -- both masks below 2^n: every site is below n, since the last one has a bit in one of them
+  pub reach-masked : (n : ℕ) → flipOf (masksOf p) < 2 ^ n → signOf (masksOf p) < 2 ^ n → reach p ≤ n
+  unfolding total
+  reach-masked n hf hs = by-count (p .count) refl
+    where
+      by-site : (s : ℕ) → reach p ≡ suc s → 0 < letterAt p s → (high : Bool) → ltb s n ≡ high → reach p ≤ n
+      by-site s e there true h = omega (arith, ltb-true s n h)
+      by-site s e there false h =
+          let F : flips (letterAt p) s + flipBit (letterAt p s) * 2 ^ s < 2 ^ n = rw (← flips-masked (suc s) (omega arith)) hf in
+          let S : signs (letterAt p) s + signBit (letterAt p s) * 2 ^ s < 2 ^ n = rw (← signs-masked (suc s) (omega arith)) hs in
+          let above : n ≤ s = ltb-false s n h in
+          absurd (omega (arith, bit-below (flipBit (letterAt p s)) s n above (omega arith), bit-below (signBit (letterAt p s)) s n above (omega arith), bits-of-letter (letterAt p s) (letter-lt s)))
+
+      by-count : (k : ℕ) → p .count ≡ k → reach p ≤ n
+      by-count zero e = rw (reach-none p e) (omega arith)
+      by-count (suc k) e =
+          let l : k < p .count = omega arith in
+          let last : p .count - 1 ≡ k = omega arith in
+          let s = at (p .sites) k in
+          by-site s (reach-last p (omega arith) ∙ ap (λ (i : ℕ). suc (at (p .sites) i)) last) (rw (letter-here p v k l) (valid-at p v k l .letter-there)) (ltb s n) refl

@@ -145,19 +145,19 @@ counts-fit {t} kind m r e h =
     record { turned = omega arith; doubled = omega arith; both = omega arith }
 
 -- what the code finds
-pub walk-found : (M : Letters) (p : Items) (r : ℕ) {m t : ℕ} → m ≡ masksOf p → t ≡ turnOf M
-    → _≡_ {A = ℕ × ℕ} (bitXor r (m % 2 ^ 32), (t * ones (bitAnd (m % 2 ^ 32) (m / 2 ^ 32)) + 2 * ones (bitAnd r (m / 2 ^ 32))) % 4) (walkOf M p r)
+pub walk-found : (M : Letters) (m r : ℕ) {t : ℕ} → t ≡ turnOf M
+    → _≡_ {A = ℕ × ℕ} (bitXor r (m % 2 ^ 32), (t * ones (bitAnd (m % 2 ^ 32) (m / 2 ^ 32)) + 2 * ones (bitAnd r (m / 2 ^ 32))) % 4) (walkOf M m r)
 unfolding walkOf flipOf signOf
-walk-found M p r e t = rw (e, t)
+walk-found M m r t = rw t
 
 -- its power is below 4
-pub walk-power-lt : (M : Letters) (p : Items) (r : ℕ) → walkOf M p r .1 < 4
+pub walk-power-lt : (M : Letters) (m r : ℕ) → walkOf M m r .1 < 4
 unfolding walkOf
-walk-power-lt M p r = mod-lt _ (omega arith)
+walk-power-lt M m r = mod-lt _ (omega arith)
 
 -- of a valid record it is that of its letters
 pub walk-inside : (kind : Kind) (p : Items) → valid p ≡ true → (r : ℕ) → r < 2 ^ 31 → (n : ℕ) → reach p ≤ n → r < 2 ^ n
-    → walkOf (lettersOf kind) p r ≡ (columnOf (lettersOf kind) n (letterAt p) r, rowPower (lettersOf kind) n (letterAt p) r)
+    → walkOf (lettersOf kind) (masksOf p) r ≡ (columnOf (lettersOf kind) n (letterAt p) r, rowPower (lettersOf kind) n (letterAt p) r)
 unfolding walkOf
 walk-inside kind p v r small n in-n row-n =
     let f = letterAt p in

@@ -22,10 +22,10 @@ masksIn sites letters (suc n) = bitXor (masksIn sites letters n) (letterBits (at
 unfoldable pub masksOf : Items → ℕ
 masksOf p = masksIn (p .sites) (p .letters) (min (p .count) capacity)
 
--- the bits that it turns over
-unfoldable pub flipOf : Items → ℕ
-flipOf p = masksOf p % 2 ^ 32
+-- of such a number m: the bits turned over
+unfoldable pub flipOf : ℕ → ℕ
+flipOf m = m % 2 ^ 32
 
--- the bits that give a sign
-unfoldable pub signOf : Items → ℕ
-signOf p = masksOf p / 2 ^ 32
+-- and the bits that give a sign
+unfoldable pub signOf : ℕ → ℕ
+signOf m = m / 2 ^ 32

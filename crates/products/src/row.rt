@@ -91,13 +91,12 @@ fn turn_of(kind: Kind) -> u32
     }
 }
 
-// The column and the power of i of the entry of `row` that is not zero. Number 0 isn't judged.
-pub fn walked(kind: Kind, p: Items, row: u64) -> WalkEnd
-    ensures { λ r. ⌜ _≡_ {A = ℕ × ℕ} (r .column, r .power) (walkOf (lettersOf kind) p row) ⌝ }
+// The column and the power of i of the entry of `row` that is not zero, of the product with these masks. Number 0 isn't judged.
+pub fn walked(kind: Kind, masks: u64, row: u64) -> WalkEnd
+    ensures { λ r. ⌜ _≡_ {A = ℕ × ℕ} (r .column, r .power) (walkOf (lettersOf kind) masks row) ⌝ }
 {
-    let m = masks(p);
-    let flip = m % MASK_SIZE;
-    let sign = m / MASK_SIZE;
+    let flip = masks % MASK_SIZE;
+    let sign = masks / MASK_SIZE;
     let turn = turn_of(kind);
     let power = turn * u64::count_ones(flip & sign) + 2 * u64::count_ones(row & sign);
     WalkEnd {
@@ -123,6 +122,6 @@ pub fn row(kind: Kind, p: Items, spins: u32, row: u64) -> ItemsRow
     if (spins as usize) < reach {
         return ItemsRow::Refused(Refusal::SiteOutsideSpins(reach - 1));
     }
-    let w = walked(kind, p, row);
+    let w = walked(kind, masks(p), row);
     ItemsRow::Entry(w.column, w.power)
 }

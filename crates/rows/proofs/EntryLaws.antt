@@ -1,4 +1,4 @@
--- The entries found from the products' own rows: their columns are in the matrix and their powers below 4, so that their pairs fit 64 bits;
+-- The entries found from the products' masks: their columns are in the matrix and their powers below 4, so that their pairs fit 64 bits;
 -- and scaled they are the contributions of a term to a row. Assumes nothing.
 use mathlib.Core.Path.{_≡_, refl, sym, ap, ap₂, subst, _∙_}
 use mathlib.Core.Bool.{Bool, true, false, cond}
@@ -37,7 +37,7 @@ pub record Small (n : ℕ) (x : ℕ × ℕ) : Type 0 where
   pub power : x .1 < 4
 
 -- every entry is small, also one that means nothing
-pub entry-small : (M : Letters) (p : Items) (n r : ℕ) → Small n (entryOf M p n r)
+pub entry-small : (M : Letters) (p n r : ℕ) → Small n (entryOf M p n r)
 unfolding entryOf
 entry-small M p n r = go (ltb mostSpins n)
   where
@@ -46,11 +46,11 @@ entry-small M p n r = go (ltb mostSpins n)
     go false = record { column = mod-lt _ (pow-pos n); power = walk-power-lt M p r }
 
 -- what the code finds: too many spins, and the end of the pass, its column within the matrix
-pub entry-none : (M : Letters) (p : Items) (n r : ℕ) → mostSpins < n → (0, 0) ≡ entryOf M p n r
+pub entry-none : (M : Letters) (p n r : ℕ) → mostSpins < n → (0, 0) ≡ entryOf M p n r
 unfolding entryOf
 entry-none M p n r h = rw (lt-ltb mostSpins n h)
 
-pub entry-found : (M : Letters) (p : Items) (n r : ℕ) {d : ℕ} {w : ℕ × ℕ} → n ≤ mostSpins → w ≡ walkOf M p r → d ≡ 2 ^ n → (w .0 % d, w .1) ≡ entryOf M p n r
+pub entry-found : (M : Letters) (p n r : ℕ) {d : ℕ} {w : ℕ × ℕ} → n ≤ mostSpins → w ≡ walkOf M p r → d ≡ 2 ^ n → (w .0 % d, w .1) ≡ entryOf M p n r
 unfolding entryOf
 entry-found M p n r h e s = rw (le-ltb mostSpins n h, e, s)
 
@@ -114,12 +114,12 @@ half-power m s t x y =
 -- ---- the entries of a row from the masks
 
 -- too many spins
-pub commutator-none : (p : Items) (n row : ℕ) → mostSpins < n → (0, 0) ∷ (0, 0) ∷ [] ≡ commutatorEntries p n row
+pub commutator-none : (p n row : ℕ) → mostSpins < n → (0, 0) ∷ (0, 0) ∷ [] ≡ commutatorEntries p n row
 unfolding commutatorEntries
 commutator-none p n row h = rw (lt-ltb mostSpins n h)
 
--- by the flips f and the signs s of the product; b is the column of row l
-commutator-by-masks : (p : Items) (n row : ℕ) → n ≤ mostSpins
+-- by the flips f and the signs s of the masks p; b is the column of row l
+commutator-by-masks : (p n row : ℕ) → n ≤ mostSpins
     → let k = row / 2 ^ n in let l = row % 2 ^ n in let f = flipOf p in let s = signOf p in let b = bitXor l f % 2 ^ n in
     (bitXor k f % 2 ^ n * 2 ^ n + l, (3 + 3 * (ones (bitAnd f s) % 4) + 2 * (ones (bitAnd k s) % 2)) % 4)
     ∷ (k * 2 ^ n + b, (1 + 3 * (ones (bitAnd f s) % 4) + 2 * (ones (bitAnd b s) % 2)) % 4) ∷ []
@@ -133,20 +133,20 @@ commutator-by-masks p n row h =
     (ap₂ (λ (x y : ℕ). (bitXor k (flipOf p) % 2 ^ n * 2 ^ n + row % 2 ^ n, x) ∷ (k * 2 ^ n + b, y) ∷ []) (y-power 3 ys (ones (bitAnd k (signOf p)))) (y-power 1 ys (ones (bitAnd b (signOf p)))))
 
 -- from the masks that the code reads, where d is the matrix's size
-pub commutator-found : (p : Items) (n row : ℕ) {d both ys a b : ℕ} {left right : ℕ × ℕ} → n ≤ mostSpins → d ≡ 2 ^ n → both ≡ masksOf p
-    → ys ≡ 3 * (ones (bitAnd (both % 2 ^ 32) (both / 2 ^ 32)) % 4)
-    → a ≡ 2 * (ones (bitAnd (row / d) (both / 2 ^ 32)) % 2) → left ≡ (bitXor (row / d) (both % 2 ^ 32) % d * d + row % d, (3 + ys + a) % 4)
-    → b ≡ 2 * (ones (bitAnd (bitXor (row % d) (both % 2 ^ 32) % d) (both / 2 ^ 32)) % 2) → right ≡ (row / d * d + bitXor (row % d) (both % 2 ^ 32) % d, (1 + ys + b) % 4)
+pub commutator-found : (p n row : ℕ) {d ys a b : ℕ} {left right : ℕ × ℕ} → n ≤ mostSpins → d ≡ 2 ^ n
+    → ys ≡ 3 * (ones (bitAnd (p % 2 ^ 32) (p / 2 ^ 32)) % 4)
+    → a ≡ 2 * (ones (bitAnd (row / d) (p / 2 ^ 32)) % 2) → left ≡ (bitXor (row / d) (p % 2 ^ 32) % d * d + row % d, (3 + ys + a) % 4)
+    → b ≡ 2 * (ones (bitAnd (bitXor (row % d) (p % 2 ^ 32) % d) (p / 2 ^ 32)) % 2) → right ≡ (row / d * d + bitXor (row % d) (p % 2 ^ 32) % d, (1 + ys + b) % 4)
     → left ∷ right ∷ [] ≡ commutatorEntries p n row
 unfolding flipOf signOf
-commutator-found p n row h d m ys a left b right = rw (left, right, ys, a, b, d, m) (commutator-by-masks p n row h)
+commutator-found p n row h d ys a left b right = rw (left, right, ys, a, b, d) (commutator-by-masks p n row h)
 
-pub noise-none : (p q : Items) (n row : ℕ) → mostSpins < n → (0, 0) ∷ (0, 0) ∷ (0, 0) ∷ [] ≡ noiseEntries p q n row
+pub noise-none : (p q n row : ℕ) → mostSpins < n → (0, 0) ∷ (0, 0) ∷ (0, 0) ∷ [] ≡ noiseEntries p q n row
 unfolding noiseEntries
 noise-none p q n row h = rw (lt-ltb mostSpins n h)
 
--- by the flips and the signs of the products; m is the column of row k of R, and w that of row l of L
-noise-by-masks : (p q : Items) (n row : ℕ) → n ≤ mostSpins
+-- by the flips and the signs of the masks p and q; m is the column of row k of R, and w that of row l of L
+noise-by-masks : (p q n row : ℕ) → n ≤ mostSpins
     → let k = row / 2 ^ n in let l = row % 2 ^ n in let m = bitXor k (flipOf q) % 2 ^ n in let w = bitXor l (flipOf p) % 2 ^ n in let s = bitXor (signOf p) (signOf q) in
     (bitXor k (flipOf p) % 2 ^ n * 2 ^ n + bitXor l (flipOf q) % 2 ^ n, 2 * (ones (bitXor (bitAnd k (signOf p)) (bitAnd l (signOf q))) % 2) % 4)
     ∷ (bitXor m (flipOf p) % 2 ^ n * 2 ^ n + l, 2 * (ones (bitAnd m s) % 2) % 4)
@@ -169,14 +169,14 @@ noise-by-masks p q n row h =
     )
 
 -- from the masks that the code reads
-pub noise-found : (p q : Items) (n row : ℕ) {d of-left of-right a b c : ℕ} {jump left right : ℕ × ℕ} → n ≤ mostSpins → d ≡ 2 ^ n → of-left ≡ masksOf p → of-right ≡ masksOf q
-    → let k = row / d in let l = row % d in let f = of-left % 2 ^ 32 in let g = of-right % 2 ^ 32 in let s = of-left / 2 ^ 32 in let t = of-right / 2 ^ 32 in
+pub noise-found : (p q n row : ℕ) {d a b c : ℕ} {jump left right : ℕ × ℕ} → n ≤ mostSpins → d ≡ 2 ^ n
+    → let k = row / d in let l = row % d in let f = p % 2 ^ 32 in let g = q % 2 ^ 32 in let s = p / 2 ^ 32 in let t = q / 2 ^ 32 in
     a ≡ 2 * (ones (bitXor (bitAnd k s) (bitAnd l t)) % 2) → jump ≡ (bitXor k f % d * d + bitXor l g % d, a % 4)
     → b ≡ 2 * (ones (bitAnd (bitXor k g % d) (bitXor s t)) % 2) → left ≡ (bitXor (bitXor k g % d) f % d * d + l, b % 4)
     → c ≡ 2 * (ones (bitAnd (bitXor l f % d) (bitXor s t)) % 2) → right ≡ (k * d + bitXor (bitXor l f % d) g % d, c % 4)
     → jump ∷ left ∷ right ∷ [] ≡ noiseEntries p q n row
 unfolding flipOf signOf
-noise-found p q n row h d m m′ a jump b left c right = rw (jump, left, right, a, b, c, d, m, m′) (noise-by-masks p q n row h)
+noise-found p q n row h d a jump b left c right = rw (jump, left, right, a, b, c, d) (noise-by-masks p q n row h)
 
 -- ---- a product that fits n spins
 
@@ -198,12 +198,12 @@ decoherence-kind = of-kind Decoherence
 
 -- the entry of a row is that of the product's letters
 pub entry-inside : {M : Letters} → OfKind M → (p : Items) (n r : ℕ) → valid p ≡ true → reach p ≤ n → n ≤ mostSpins → r < 2 ^ n
-    → entryOf M p n r ≡ (columnOf M n (letterAt p) r, rowPower M n (letterAt p) r)
+    → entryOf M (masksOf p) n r ≡ (columnOf M n (letterAt p) r, rowPower M n (letterAt p) r)
 unfolding entryOf
 entry-inside o p n r v s h l =
-    subst (λ M. entryOf M p n r ≡ (columnOf M n (letterAt p) r, rowPower M n (letterAt p) r)) (o .is) (go (o .kind))
+    subst (λ M. entryOf M (masksOf p) n r ≡ (columnOf M n (letterAt p) r, rowPower M n (letterAt p) r)) (o .is) (go (o .kind))
   where
-    go : (kind : Kind) → entryOf (lettersOf kind) p n r ≡ (columnOf (lettersOf kind) n (letterAt p) r, rowPower (lettersOf kind) n (letterAt p) r)
+    go : (kind : Kind) → entryOf (lettersOf kind) (masksOf p) n r ≡ (columnOf (lettersOf kind) n (letterAt p) r, rowPower (lettersOf kind) n (letterAt p) r)
     go kind =
         rw (
           le-ltb mostSpins n h,
@@ -217,10 +217,10 @@ pub record Within (n : ℕ) (p : Items) : Type 0 where
   pub sites-below : reach p ≤ n
 
 module _ {M : Letters} (o : OfKind M) (n : ℕ) (h : n ≤ mostSpins) (p : Items) (w : Within n p) (r : ℕ) (l : r < 2 ^ n) where
-  column-inside : columnOf M n (letterAt p) r ≡ entryOf M p n r .0
+  column-inside : columnOf M n (letterAt p) r ≡ entryOf M (masksOf p) n r .0
   column-inside = sym (ap (λ (x : ℕ × ℕ). x .0) (entry-inside o p n r (w .held) (w .sites-below) h l))
 
-  power-inside : rowPower M n (letterAt p) r ≡ entryOf M p n r .1
+  power-inside : rowPower M n (letterAt p) r ≡ entryOf M (masksOf p) n r .1
   power-inside = sym (ap (λ (x : ℕ × ℕ). x .1) (entry-inside o p n r (w .held) (w .sites-below) h l))
 
 -- ---- the contributions of a term, from its entries
@@ -240,7 +240,7 @@ module _ {C N : Type 0} (A : Numbers C N) (c : C) where
 
   module _ (n : ℕ) (h : n ≤ mostSpins) where
     -- an operator's row
-    pub operator-terms : {M : Letters} → OfKind M → (p : Items) → Within n p → (r : ℕ) → r < 2 ^ n → operatorTerms A n M r (letterAt p) c ≡ whole (entryOf M p n r) ∷ []
+    pub operator-terms : {M : Letters} → OfKind M → (p : Items) → Within n p → (r : ℕ) → r < 2 ^ n → operatorTerms A n M r (letterAt p) c ≡ whole (entryOf M (masksOf p) n r) ∷ []
     unfolding operatorTerms
     operator-terms o p w r l = rw (column-inside o n h p w r l, power-inside o n h p w r l)
 
@@ -252,28 +252,28 @@ module _ {C N : Type 0} (A : Numbers C N) (c : C) where
       second-below = mod-lt r (pow-pos n)
 
       -- a commutator's row: both entries whole
-      pub commutator-terms : (p : Items) → Within n p → commutatorTerms A n (r / 2 ^ n) (r % 2 ^ n) (letterAt p) c ≡ map whole (commutatorEntries p n r)
+      pub commutator-terms : (p : Items) → Within n p → commutatorTerms A n (r / 2 ^ n) (r % 2 ^ n) (letterAt p) c ≡ map whole (commutatorEntries (masksOf p) n r)
       unfolding commutatorTerms commutatorEntries
       commutator-terms p w =
           let k = r / 2 ^ n in
-          let b = entryOf pauli p n (r % 2 ^ n) .0 in
+          let b = entryOf pauli (masksOf p) n (r % 2 ^ n) .0 in
           rw (
             le-ltb mostSpins n h,
             column-inside pauli-kind n h p w k first-below,
             power-inside pauli-kind n h p w k first-below,
             column-inside pauli-kind n h p w (r % 2 ^ n) second-below,
-            power-inside pauli-kind n h p w b (entry-small pauli p n (r % 2 ^ n) .column),
+            power-inside pauli-kind n h p w b (entry-small pauli (masksOf p) n (r % 2 ^ n) .column),
           )
 
       -- a noise row: the jump whole, the halves by -1/2
-      pub noise-terms : (p q : Items) → Within n p → Within n q → noiseTerms A n (r / 2 ^ n) (r % 2 ^ n) (letterAt p) (letterAt q) c ≡ jumpAndHalves (noiseEntries p q n r)
+      pub noise-terms : (p q : Items) → Within n p → Within n q → noiseTerms A n (r / 2 ^ n) (r % 2 ^ n) (letterAt p) (letterAt q) c ≡ jumpAndHalves (noiseEntries (masksOf p) (masksOf q) n r)
       unfolding noiseTerms noiseEntries
       noise-terms p q w v =
           let k = r / 2 ^ n in
-          let m = entryOf decoherence q n k .0 in
-          let m′ = entryOf decoherence p n (r % 2 ^ n) .0 in
-          let m-below : m < 2 ^ n = entry-small decoherence q n k .column in
-          let m′-below : m′ < 2 ^ n = entry-small decoherence p n (r % 2 ^ n) .column in
+          let m = entryOf decoherence (masksOf q) n k .0 in
+          let m′ = entryOf decoherence (masksOf p) n (r % 2 ^ n) .0 in
+          let m-below : m < 2 ^ n = entry-small decoherence (masksOf q) n k .column in
+          let m′-below : m′ < 2 ^ n = entry-small decoherence (masksOf p) n (r % 2 ^ n) .column in
           rw (
             le-ltb mostSpins n h,
             column-inside decoherence-kind n h p w k first-below,
@@ -291,10 +291,10 @@ module _ {C N : Type 0} (A : Numbers C N) (c : C) where
           )
 
       -- the same from the entries that the code finds
-      pub commutator-contributes : (p : Items) → Within n p → {left right : ℕ × ℕ} → left ∷ right ∷ [] ≡ commutatorEntries p n r
+      pub commutator-contributes : (p : Items) → Within n p → {left right : ℕ × ℕ} → left ∷ right ∷ [] ≡ commutatorEntries (masksOf p) n r
           → commutatorTerms A n (r / 2 ^ n) (r % 2 ^ n) (letterAt p) c ≡ whole left ∷ whole right ∷ []
       commutator-contributes p w e = commutator-terms p w ∙ ap (map whole) (sym e)
 
-      pub noise-contributes : (p q : Items) → Within n p → Within n q → {jump left right : ℕ × ℕ} → jump ∷ left ∷ right ∷ [] ≡ noiseEntries p q n r
+      pub noise-contributes : (p q : Items) → Within n p → Within n q → {jump left right : ℕ × ℕ} → jump ∷ left ∷ right ∷ [] ≡ noiseEntries (masksOf p) (masksOf q) n r
           → noiseTerms A n (r / 2 ^ n) (r % 2 ^ n) (letterAt p) (letterAt q) c ≡ whole jump ∷ half left ∷ half right ∷ []
       noise-contributes p q w v e = noise-terms p q w v ∙ ap jumpAndHalves (sym e)

@@ -1,5 +1,6 @@
--- The columns and powers of i that products contribute to a row, found from their own rows: what `commutatorTerms` and `noiseTerms` scale.
--- Of a product that has the row (EntryLaws: `entry-inside`) these are its entries; of any other they mean nothing, and stay in the matrix.
+-- The columns and powers of i that products contribute to a row, found from their masks: what `commutatorTerms` and `noiseTerms` scale.
+-- Of the masks of a product that has the row (EntryLaws: `entry-inside`) these are its entries; of any other they mean nothing, and stay in
+-- the matrix.
 use Prim.Native.Nat.{ℕ, _+_, _*_, _/_, _%_, _^_}
 use mathlib.Core.Bool.{cond}
 use mathlib.Core.List.{List, [], _∷_}
@@ -7,15 +8,14 @@ use lib.Dec.{ltb}
 use Rattle.letters.specs.Matrices.{Letters, pauli, decoherence}
 use Rattle.products.specs.Answers.{mostSpins}
 use Rattle.products.specs.Walks.{walkOf}
-use Rattle.products.specs.declared.items.Items.{Items}
 use Rattle.rows.specs.Contributions.{pairColumn}
 
--- the column and the power of a row
-unfoldable pub entryOf : Letters → Items → ℕ → ℕ → ℕ × ℕ
-entryOf M p n r = cond (ltb mostSpins n) (0, 0) (walkOf M p r .0 % 2 ^ n, walkOf M p r .1)
+-- the column and the power of a row of the product with these masks
+unfoldable pub entryOf : Letters → ℕ → ℕ → ℕ → ℕ × ℕ
+entryOf M masks n r = cond (ltb mostSpins n) (0, 0) (walkOf M masks r .0 % 2 ^ n, walkOf M masks r .1)
 
--- the two entries of a Pauli product in a commutator's row r = (k, l)
-unfoldable pub commutatorEntries : Items → ℕ → ℕ → List (ℕ × ℕ)
+-- the two entries of a Pauli product with the masks p in a commutator's row r = (k, l)
+unfoldable pub commutatorEntries : ℕ → ℕ → ℕ → List (ℕ × ℕ)
 commutatorEntries p n r =
     let k = r / 2 ^ n in
     let l = r % 2 ^ n in
@@ -24,8 +24,8 @@ commutatorEntries p n r =
     cond (ltb mostSpins n) ((0, 0) ∷ (0, 0) ∷ [])
     ((pairColumn n (left .0) l, (3 + left .1) % 4) ∷ (pairColumn n k b, (1 + entryOf pauli p n b .1) % 4) ∷ [])
 
--- the three entries of a pair (L, R) of decoherence products in a noise row r = (k, l)
-unfoldable pub noiseEntries : Items → Items → ℕ → ℕ → List (ℕ × ℕ)
+-- the three entries of a pair (L, R) of decoherence products with the masks p and q in a noise row r = (k, l)
+unfoldable pub noiseEntries : ℕ → ℕ → ℕ → ℕ → List (ℕ × ℕ)
 noiseEntries p q n r =
     let k = r / 2 ^ n in
     let l = r % 2 ^ n in

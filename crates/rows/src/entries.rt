@@ -9,10 +9,8 @@ ghost use Rattle.rows.specs.Numbers.{minusHalfUnit};
 ghost use Rattle.rows.specs.Entries.{entryOf, commutatorEntries, noiseEntries};
 use complex::Complex;
 use letters::Kind;
-use products::items::Items;
 use products::row::MASK_SIZE;
 use products::row::MOST_SPINS;
-use products::row::masks;
 use products::row::walked;
 
 // A column and a power of i.
@@ -53,9 +51,9 @@ fn paired(size: u64, a: u64, b: u64, power: u8) -> Entry
     }
 }
 
-// The entry of a product's own row. Number 0 isn't judged again: the sets that products come from have been.
-pub fn operator_entry(kind: Kind, p: Items, spins: u32, row: u64) -> Entry
-    ensures { λ r. ⌜ _≡_ {A = ℕ × ℕ} (r .column, r .power) (entryOf (lettersOf kind) p spins row) ⌝ }
+// The entry of the row of the product with these masks. Number 0 isn't judged again: the sets that products come from have been.
+pub fn operator_entry(kind: Kind, masks: u64, spins: u32, row: u64) -> Entry
+    ensures { λ r. ⌜ _≡_ {A = ℕ × ℕ} (r .column, r .power) (entryOf (lettersOf kind) masks spins row) ⌝ }
 {
     if MOST_SPINS < spins {
         return Entry {
@@ -63,7 +61,7 @@ pub fn operator_entry(kind: Kind, p: Items, spins: u32, row: u64) -> Entry
             power: 0,
         };
     }
-    let w = walked(kind, p, row);
+    let w = walked(kind, masks, row);
     Entry {
         column: w.column % size_of(spins),
         power: w.power,
@@ -84,9 +82,9 @@ fn y_power(flip: u64, sign: u64) -> u8
     3 * ((u64::count_ones(flip & sign) % 4) as u8)
 }
 
-// The entries of a Pauli product in a commutator's row (k, l). Row l has its entry in column b.
-pub fn commutator_entries(p: Items, spins: u32, row: u64) -> CommutatorEntries
-    ensures { λ r. ⌜ ((r .left .column, r .left .power) ∷ (r .right .column, r .right .power) ∷ []) ≡ commutatorEntries p spins row ⌝ }
+// The entries of the Pauli product with these masks in a commutator's row (k, l). Row l has its entry in column b.
+pub fn commutator_entries(masks: u64, spins: u32, row: u64) -> CommutatorEntries
+    ensures { λ r. ⌜ ((r .left .column, r .left .power) ∷ (r .right .column, r .right .power) ∷ []) ≡ commutatorEntries masks spins row ⌝ }
 {
     if MOST_SPINS < spins {
         let none = Entry {
@@ -101,9 +99,8 @@ pub fn commutator_entries(p: Items, spins: u32, row: u64) -> CommutatorEntries
     let size = size_of(spins);
     let k = row / size;
     let l = row % size;
-    let both = masks(p);
-    let flip = both % MASK_SIZE;
-    let sign = both / MASK_SIZE;
+    let flip = masks % MASK_SIZE;
+    let sign = masks / MASK_SIZE;
     let b = (l ^ flip) % size;
     let ys = y_power(flip, sign);
     let left = paired(size, (k ^ flip) % size, l, 3 + ys + sign_power(k & sign));
@@ -111,9 +108,9 @@ pub fn commutator_entries(p: Items, spins: u32, row: u64) -> CommutatorEntries
     CommutatorEntries { left, right }
 }
 
-// The entries of a pair of decoherence products in a noise row (k, l). Row k of R has its entry in column m, and row l of L in column w.
-// All powers are even: iY has none of its own, so that only the parity of the signs counts.
-pub fn noise_entries(left: Items, right: Items, spins: u32, row: u64) -> NoiseEntries
+// The entries of the pair of decoherence products with the masks `left` and `right` in a noise row (k, l). Row k of R has its entry in column m,
+// and row l of L in column w. All powers are even: iY has none of its own, so that only the parity of the signs counts.
+pub fn noise_entries(left: u64, right: u64, spins: u32, row: u64) -> NoiseEntries
     ensures { λ r. ⌜ ((r .jump .column, r .jump .power) ∷ (r .left .column, r .left .power) ∷ (r .right .column, r .right .power) ∷ []) ≡ noiseEntries left right spins row ⌝ }
 {
     if MOST_SPINS < spins {
@@ -130,12 +127,10 @@ pub fn noise_entries(left: Items, right: Items, spins: u32, row: u64) -> NoiseEn
     let size = size_of(spins);
     let k = row / size;
     let l = row % size;
-    let of_left = masks(left);
-    let of_right = masks(right);
-    let left_flip = of_left % MASK_SIZE;
-    let left_sign = of_left / MASK_SIZE;
-    let right_flip = of_right % MASK_SIZE;
-    let right_sign = of_right / MASK_SIZE;
+    let left_flip = left % MASK_SIZE;
+    let left_sign = left / MASK_SIZE;
+    let right_flip = right % MASK_SIZE;
+    let right_sign = right / MASK_SIZE;
     let m = (k ^ right_flip) % size;
     let w = (l ^ left_flip) % size;
     let signs = left_sign ^ right_sign;

@@ -1,12 +1,14 @@
 -- `row::row`: each refusal by the tests on the way, the entry by the pass over the places.
 -- Assumes nothing.
 use mathlib.Core.Path.{sym, ap, _∙_}
-use Prim.Native.Nat.{_^_, _≤_, _<_}
+use Prim.Native.Nat.{ℕ, _^_, _≤_, _<_}
 use native.Mathlib.Omega.{arith}
 use borrow.Author.Tests.{not-true, not-false}
 use borrow.Author.Needs.{needs}
 use Rattle.refusal.specs.Refusals.{gives}
+use Rattle.letters.specs.Matrices.{lettersOf}
 use Rattle.products.specs.Record.{reach}
+use Rattle.products.specs.Walks.{walkOf}
 use Rattle.products.proofs.RowLaws.{row-malformed, row-spins, row-range, row-outside, row-inside, row-small}
 use Rattle.products.proofs.WalkLaws.{walk-inside}
 use Rattle.products.proofs.row.row.Statement.{statement}
@@ -36,19 +38,29 @@ sub-t14 c = search needs
 returns-4 : tie.Need-returns-4
 returns-4 c = row-outside _ _ _ _ (sym (c .before .before .before .before .before .before .is-valid .ensures) ∙ not-false _ (c .before .before .before .before .before .if1 .left)) (c .before .before .before .before .if2 .left) (c .before .before .before .place-of .ensures) (c .before .before .if3 .left) (c .before .reach-of .ensures) (c .if4 .taken)
 
+masks-requires : tie.Need-masks-requires
+masks-requires c κs = search needs
+
 walked-requires : tie.Need-walked-requires
 walked-requires c κs = search needs
 
 returns-5 : tie.Need-returns-5
 returns-5 c =
-    let n = c .before .before .before .before .before .before .before .before .args .spins in
-    let q : reach (c .before .before .before .before .before .before .before .before .args .p) ≤ n = omega (arith, c .before .before .reach-of .ensures) in
-    let r : c .before .before .before .before .before .before .before .before .args .row < 2 ^ n = omega (arith, c .before .before .before .before .place-of .ensures) in
-    let v = sym (c .before .before .before .before .before .before .before .is-valid .ensures) ∙ not-false _ (c .before .before .before .before .before .before .if1 .left) in
-    let few = c .before .before .before .before .before .if2 .left in
-    let size = c .before .before .before .before .place-of .ensures in
-    ap gives (c .walked .ensures ∙ walk-inside _ _ v _ (row-small _ few size (c .before .before .before .if3 .left)) n q r)
-    ∙ row-inside _ _ _ _ v few size (c .before .before .before .if3 .left) (c .before .before .reach-of .ensures) (c .before .if4 .left)
+    let inside = c .before .before in
+    let far = inside .before in
+    let range = far .before in
+    let size = range .before in
+    let few = size .before .if2 .left in
+    let judged = size .before .before in
+    let a = judged .before .before .args in
+    let q : reach (a .p) ≤ a .spins = omega (arith, far .reach-of .ensures) in
+    let r : a .row < 2 ^ a .spins = omega (arith, size .place-of .ensures) in
+    let v = sym (judged .before .is-valid .ensures) ∙ not-false _ (judged .if1 .left) in
+    ap gives
+    (c .walked .ensures
+    ∙ ap (λ (m : ℕ). walkOf (lettersOf (a .kind)) m (a .row)) (c .before .masks .ensures)
+    ∙ walk-inside (a .kind) (a .p) v (a .row) (row-small _ few (size .place-of .ensures) (range .if3 .left)) (a .spins) q r)
+    ∙ row-inside _ _ _ _ v few (size .place-of .ensures) (range .if3 .left) (far .reach-of .ensures) (inside .if4 .left)
 
 pub row-spec : {M : Type 1} → statement M
 row-spec =
@@ -62,5 +74,6 @@ row-spec =
     reach-of-requires
     sub-t14
     returns-4
+    masks-requires
     walked-requires
     returns-5)

@@ -5,28 +5,25 @@ use Rattle.products.proofs.WalkLaws.{counts-fit, walk-found}
 use Rattle.products.proofs.row.walked.Statement.{statement}
 use Rattle.products.proofs.row.walked.Tie as tie
 
-masks-requires : tie.Need-masks-requires
-masks-requires c κs = search needs
-
 turn-of-requires : tie.Need-turn-of-requires
 turn-of-requires c κs = search needs
 
 mul-power : tie.Need-mul-power
-mul-power c = record { fits = counts-fit _ (c .before .masks .result) _ (c .turn-of .ensures) (c .before .before .fits .row .fits) .turned }
+mul-power c = record { fits = counts-fit _ (c .before .args .masks) _ (c .turn-of .ensures) (c .before .fits .row .fits) .turned }
 
 mul-power-2 : tie.Need-mul-power-2
-mul-power-2 c = record { fits = counts-fit _ (c .before .masks .result) _ (c .turn-of .ensures) (c .before .before .fits .row .fits) .doubled }
+mul-power-2 c = record { fits = counts-fit _ (c .before .args .masks) _ (c .turn-of .ensures) (c .before .fits .row .fits) .doubled }
 
 add-power : tie.Need-add-power
-add-power c = record { fits = counts-fit _ (c .before .masks .result) _ (c .turn-of .ensures) (c .before .before .fits .row .fits) .both }
+add-power c = record { fits = counts-fit _ (c .before .args .masks) _ (c .turn-of .ensures) (c .before .fits .row .fits) .both }
 
-cast-t15 : tie.Need-cast-t15
-cast-t15 c = search needs
+cast-t14 : tie.Need-cast-t14
+cast-t14 c = search needs
 
 returns : tie.Need-returns
-returns c = walk-found _ _ _ (c .before .masks .ensures) (c .turn-of .ensures)
+returns c = walk-found _ _ _ (c .turn-of .ensures)
 
 pub walked-spec : {M : Type 1} → statement M
 walked-spec =
     tie.close
-    (tie.spec masks-requires turn-of-requires mul-power mul-power-2 add-power cast-t15 returns)
+    (tie.spec turn-of-requires mul-power mul-power-2 add-power cast-t14 returns)

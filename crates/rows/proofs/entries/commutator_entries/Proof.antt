@@ -1,4 +1,4 @@
--- `entries::commutator_entries`: columns and powers from the product's masks; columns in the matrix, so that pairs fit.
+-- `entries::commutator_entries`: columns and powers from the masks; columns in the matrix, so that pairs fit.
 -- Assumes nothing.
 use borrow.Author.Needs.{needs}
 use Rattle.products.proofs.RowLaws.{unit-positive}
@@ -18,17 +18,14 @@ div-k c = unit-positive _ (c .size-of .ensures)
 rem-l : tie.Need-rem-l
 rem-l c = unit-positive _ (c .size-of .ensures)
 
-masks-requires : tie.Need-masks-requires
-masks-requires c κs = search needs
-
 rem-b : tie.Need-rem-b
-rem-b c = unit-positive _ (c .before .size-of .ensures)
+rem-b c = unit-positive _ (c .size-of .ensures)
 
 y-power-requires : tie.Need-y-power-requires
 y-power-requires c κs = search needs
 
 rem-paired : tie.Need-rem-paired
-rem-paired c = unit-positive _ (c .before .before .size-of .ensures)
+rem-paired c = unit-positive _ (c .before .size-of .ensures)
 
 add-paired : tie.Need-add-paired
 add-paired c = search needs
@@ -41,7 +38,7 @@ add-paired-2 c = search needs
 
 paired-requires : tie.Need-paired-requires
 paired-requires c κs =
-    let size = c .before .before .before in
+    let size = c .before .before in
     pair-fits _ (size .before .if1 .left) (size .size-of .ensures) (rest-below _ _ (size .size-of .ensures)) (rest-below _ _ (size .size-of .ensures))
 
 add-paired-3 : tie.Need-add-paired-3
@@ -55,7 +52,7 @@ add-paired-4 c = search needs
 
 paired-requires-2 : tie.Need-paired-requires-2
 paired-requires-2 c κs =
-    let size = c .before .before .before .before .before in
+    let size = c .before .before .before .before in
     row-fits _ _ (size .before .if1 .left) (size .size-of .ensures) (size .before .before .fits .row .fits) (rest-below _ _ (size .size-of .ensures))
 
 returns-2 : tie.Need-returns-2
@@ -63,9 +60,8 @@ returns-2 c =
     let signs = c .before in
     let left = signs .before in
     let ys = left .before .before in
-    let both = ys .before in
-    let size = both .before in
-    commutator-found _ _ _ (size .before .if1 .left) (size .size-of .ensures) (both .masks .ensures) (ys .y-power .ensures)
+    let size = ys .before in
+    commutator-found _ _ _ (size .before .if1 .left) (size .size-of .ensures) (ys .y-power .ensures)
     (left .before .sign-power .ensures) (left .paired .ensures) (signs .sign-power2 .ensures) (c .paired2 .ensures)
 
 pub commutator-entries-spec : {M : Type 1} → statement M
@@ -76,7 +72,6 @@ commutator-entries-spec =
     size-of-requires
     div-k
     rem-l
-    masks-requires
     rem-b
     y-power-requires
     rem-paired

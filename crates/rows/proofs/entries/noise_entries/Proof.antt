@@ -18,52 +18,46 @@ div-k c = unit-positive _ (c .size-of .ensures)
 rem-l : tie.Need-rem-l
 rem-l c = unit-positive _ (c .size-of .ensures)
 
-masks-requires : tie.Need-masks-requires
-masks-requires c κs = search needs
-
-masks-requires-2 : tie.Need-masks-requires-2
-masks-requires-2 c κs = search needs
-
 rem-m : tie.Need-rem-m
-rem-m c = unit-positive _ (c .before .before .size-of .ensures)
+rem-m c = unit-positive _ (c .size-of .ensures)
 
 rem-w : tie.Need-rem-w
-rem-w c = unit-positive _ (c .before .before .size-of .ensures)
+rem-w c = unit-positive _ (c .size-of .ensures)
 
 rem-paired : tie.Need-rem-paired
-rem-paired c = unit-positive _ (c .before .before .size-of .ensures)
+rem-paired c = unit-positive _ (c .size-of .ensures)
 
 rem-paired-2 : tie.Need-rem-paired-2
-rem-paired-2 c = unit-positive _ (c .before .before .size-of .ensures)
+rem-paired-2 c = unit-positive _ (c .size-of .ensures)
 
 sign-power-requires : tie.Need-sign-power-requires
 sign-power-requires c κs = search needs
 
 paired-requires : tie.Need-paired-requires
 paired-requires c κs =
-    let size = c .before .before .before in
+    let size = c .before in
     pair-fits _ (size .before .if1 .left) (size .size-of .ensures) (rest-below _ _ (size .size-of .ensures)) (rest-below _ _ (size .size-of .ensures))
 
 rem-paired-3 : tie.Need-rem-paired-3
-rem-paired-3 c = unit-positive _ (c .before .before .before .before .size-of .ensures)
+rem-paired-3 c = unit-positive _ (c .before .before .size-of .ensures)
 
 sign-power-requires-2 : tie.Need-sign-power-requires-2
 sign-power-requires-2 c κs = search needs
 
 paired-requires-2 : tie.Need-paired-requires-2
 paired-requires-2 c κs =
-    let size = c .before .before .before .before .before in
+    let size = c .before .before .before in
     pair-fits _ (size .before .if1 .left) (size .size-of .ensures) (rest-below _ _ (size .size-of .ensures)) (rest-below _ _ (size .size-of .ensures))
 
 rem-paired-4 : tie.Need-rem-paired-4
-rem-paired-4 c = unit-positive _ (c .before .before .before .before .before .before .size-of .ensures)
+rem-paired-4 c = unit-positive _ (c .before .before .before .before .size-of .ensures)
 
 sign-power-requires-3 : tie.Need-sign-power-requires-3
 sign-power-requires-3 c κs = search needs
 
 paired-requires-3 : tie.Need-paired-requires-3
 paired-requires-3 c κs =
-    let size = c .before .before .before .before .before .before .before in
+    let size = c .before .before .before .before .before in
     row-fits _ _ (size .before .if1 .left) (size .size-of .ensures) (size .before .before .fits .row .fits) (rest-below _ _ (size .size-of .ensures))
 
 returns-2 : tie.Need-returns-2
@@ -71,10 +65,8 @@ returns-2 c =
     let right = c .before in
     let left = right .before in
     let jump = left .before .before in
-    let of-right = jump .before .before in
-    let of-left = of-right .before in
-    let size = of-left .before in
-    noise-found _ _ _ _ (size .before .if1 .left) (size .size-of .ensures) (of-left .masks .ensures) (of-right .masks2 .ensures)
+    let size = jump .before .before in
+    noise-found _ _ _ _ (size .before .if1 .left) (size .size-of .ensures)
     (jump .before .sign-power .ensures) (jump .paired .ensures) (left .before .sign-power2 .ensures) (left .paired2 .ensures) (right .sign-power3 .ensures) (c .paired3 .ensures)
 
 pub noise-entries-spec : {M : Type 1} → statement M
@@ -85,8 +77,6 @@ noise-entries-spec =
     size-of-requires
     div-k
     rem-l
-    masks-requires
-    masks-requires-2
     rem-m
     rem-w
     rem-paired
