@@ -3,7 +3,7 @@
 use mathlib.Core.Path.{_≡_, refl, sym, ap, ap₂, _∙_}
 use mathlib.Core.Bool.{Bool, true, false, cond}
 use mathlib.Core.Logic.{⊎-elim}
-use Prim.Native.Nat.{ℕ, zero, suc, _+_, _*_, _/_, _%_, _^_, _<_}
+use Prim.Native.Nat.{ℕ, zero, suc, _+_, _*_, _^_, _<_}
 use native.Mathlib.Nat.{eq-or-lt-of-le}
 use native.Mathlib.Omega.{arith}
 use lib.Dec.{eqb, ltb}
@@ -43,10 +43,9 @@ letter-of : (l : ℕ) → l < 4 → letterOf (flipBit l) (signBit l) ≡ l
 letter-of l h = eqb-true _ _ (every-at 4 (λ l. eqb (letterOf (flipBit l) (signBit l)) l) letters-found l h)
 
 pub masks-same : (p q : Items) → valid p ≡ true → valid q ≡ true → masksOf p ≡ masksOf q → p ≡ q
-unfolding flipOf signOf
 masks-same p q v w e =
-    let F : flips (letterAt p) capacity ≡ flips (letterAt q) capacity = sym (flips-masked p v capacity (reach-most p v)) ∙ ap (λ (x : ℕ). x % 2 ^ 32) e ∙ flips-masked q w capacity (reach-most q w) in
-    let S : signs (letterAt p) capacity ≡ signs (letterAt q) capacity = sym (signs-masked p v capacity (reach-most p v)) ∙ ap (λ (x : ℕ). x / 2 ^ 32) e ∙ signs-masked q w capacity (reach-most q w) in
+    let F : flips (letterAt p) capacity ≡ flips (letterAt q) capacity = sym (flips-masked p v capacity (reach-most p v)) ∙ ap flipOf e ∙ flips-masked q w capacity (reach-most q w) in
+    let S : signs (letterAt p) capacity ≡ signs (letterAt q) capacity = sym (signs-masked p v capacity (reach-most p v)) ∙ ap signOf e ∙ signs-masked q w capacity (reach-most q w) in
     let flip = bits-same capacity (λ s. flipBit (letterAt p s)) (λ s. flipBit (letterAt q s)) (λ s. flip-lt (letterAt p s) (letter-lt p v s)) (λ s. flip-lt (letterAt q s) (letter-lt q w s)) F in
     let sign = bits-same capacity (λ s. signBit (letterAt p s)) (λ s. signBit (letterAt q s)) (λ s. sign-lt (letterAt p s) (letter-lt p v s)) (λ s. sign-lt (letterAt q s) (letter-lt q w s)) S in
     extensional p q v w (λ s. go s (flip s) (sign s) (ltb s capacity) refl)

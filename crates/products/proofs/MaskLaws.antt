@@ -1,17 +1,15 @@
--- The masks of a record: a letter's bits as the table and a shift give them, the pass over the places,
--- and, of a valid record, the masks site by site. Assumes nothing.
+-- The masks of a record: the pass over the places, and, of a valid record, the masks site by site. Assumes nothing.
 use mathlib.Core.Path.{_≡_, refl, sym, ap, ap₂, _∙_}
 use mathlib.Core.Bool.{Bool, true, false, _&&_}
-use mathlib.Core.List.{List, [], _∷_}
+use mathlib.Core.List.{List}
 use Prim.Native.Nat.{ℕ, zero, suc, _+_, _-_, _*_, _/_, _%_, _^_, _≤_, _<_, min}
-use native.Mathlib.Nat.{mod-lt, mod-eq-of-lt, le-antisymm, min-eq-left, add-comm, add-mul, mul-le-mul-right, mul-right-comm}
+use native.Mathlib.Nat.{mod-eq-of-lt, le-antisymm, min-eq-left, add-comm, add-mul, mul-le-mul-right, mul-right-comm}
 use native.Mathlib.Numerals.{add-one}
 use native.Mathlib.Omega.{arith}
-use lib.Dec.{eqb, ltb, leb}
-use lib.ListN.{getD}
-use lib.Pow.{pow-mono, shl-exact, shl-lt, split, high, low}
+use lib.Dec.{ltb, leb}
+use lib.Pow.{pow-mono, shl-lt, split, high, low}
 use lib.Bits.{bitXor, xor-comm, xor-shifted, xor-block}
-use borrow.Author.Tests.{eqb-true, ltb-true, ltb-false, leb-true}
+use borrow.Author.Tests.{ltb-true, ltb-false, leb-true}
 use Rattle.letters.specs.Tests.{every}
 use Rattle.letters.specs.Sums.{total}
 use Rattle.letters.proofs.TestLaws.{and-left, and-right, every-at}
@@ -22,30 +20,6 @@ use Rattle.products.specs.Masks.{letterBits, masksIn, masksOf, flipOf, s
 use Rattle.products.specs.declared.items.Items.{Items}
 use Rattle.products.proofs.RecordLaws.{valid-at, valid-shape, letter-code, letter-here, letter-beyond, reach-none, reach-last, site-below-reach, reach-most}
 use Rattle.products.proofs.Cursor.{Cursor, cursor-none, cursor-gap, cursor-end, cursor-pass, total-above, total-site}
-
--- ---- a letter's bits
-
--- the table of the code
-abbrev table : List ℕ
-table = 0 ∷ 1 ∷ 4294967297 ∷ 4294967296 ∷ []
-
-table-found : every 4 (λ l. eqb (getD table l 0) (letterBits l)) ≡ true
-unfolding letterBits every
-table-found = refl
-
-bits-found : every 4 (λ l. ltb (letterBits l) (2 ^ 33)) ≡ true
-unfolding letterBits every
-bits-found = refl
-
-bits-lt : (l : ℕ) → l < 4 → letterBits l < 2 ^ 33
-bits-lt l h = ltb-true _ _ (every-at 4 (λ l. ltb (letterBits l) (2 ^ 33)) bits-found l h)
-
--- shifted to its site it loses nothing
-pub bits-shifted : (l s : ℕ) → (getD table (l % 4) 0 * 2 ^ (s % 32)) % 2 ^ 64 ≡ letterBits (l % 4) * 2 ^ (s % 32)
-bits-shifted l s =
-    let below : l % 4 < 4 = mod-lt l (omega arith) in
-    let found : getD table (l % 4) 0 ≡ letterBits (l % 4) = eqb-true _ _ (every-at 4 (λ l. eqb (getD table l 0) (letterBits l)) table-found (l % 4) below) in
-    ap (λ (x : ℕ). (x * 2 ^ (s % 32)) % 2 ^ 64) found ∙ shl-exact 33 (s % 32) 64 (bits-lt (l % 4) below) (omega arith)
 
 -- ---- the pass
 

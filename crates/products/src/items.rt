@@ -108,7 +108,7 @@ fn zeros_past<'a>(count: usize, sites: &'a [Site; 31], letters: &'a [u8; 31]) ->
 }
 
 // The bits of a letter at its site: X turns its bit over, Z gives it a sign, Y does both.
-fn bits_at(site: Site, letter: u8) -> u64
+pub(crate) fn bits_at(site: Site, letter: u8) -> u64
     ensures { λ r. ⌜ r ≡ letterBits (letter % 4) * 2 ^ (site % 32) ⌝ }
 {
     let l = (letter % 4) as u64;

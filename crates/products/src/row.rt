@@ -1,15 +1,16 @@
 // The row of a product's matrix: one entry is not zero.
 ghost use mathlib.Core.Path.{_≡_};
-ghost use Prim.Native.Nat.{ℕ, _+_, _*_, _%_, _^_, _<_};
+ghost use Prim.Native.Nat.{ℕ, _+_, _^_, _<_};
 ghost use Rattle.letters.specs.Matrices.{lettersOf};
 ghost use Rattle.products.specs.Record.{reach};
-ghost use Rattle.products.specs.Masks.{letterBits, masksOf};
+ghost use Rattle.products.specs.Masks.{masksOf};
 ghost use Rattle.products.specs.Walks.{turnOf, walkOf};
 ghost use Rattle.products.specs.Answers.{saidRow, rowAnswer};
 use crate::items::CAPACITY;
 use crate::items::Items;
 use crate::items::ItemsRow;
 use crate::items::Site;
+use crate::items::bits_at;
 use crate::items::is_valid;
 use crate::items::lettered;
 use letters::Kind;
@@ -20,17 +21,6 @@ pub const MOST_SPINS: u32 = 31;
 
 // One more than the largest mask: sites count below 32.
 pub const MASK_SIZE: u64 = 4294967296;
-
-// The bits of the letters in the two masks: in the low half that of X and Y, in the high half that of Y and Z.
-const LETTER_BITS: [u64; 4] = [0, 1, 4294967297, 4294967296];
-
-// The bits of a letter at its site.
-fn bits_at(site: Site, letter: u8) -> u64
-    ensures { λ r. ⌜ r ≡ letterBits (letter % 4) * 2 ^ (site % 32) ⌝ }
-{
-    let place = (site % 32) as u32;
-    LETTER_BITS[(letter % 4) as usize] << place
-}
 
 // The letters as two masks: in the low half the bits that they turn over, in the high half those that give a sign. Number 0 isn't judged.
 pub fn masks(p: Items) -> u64
