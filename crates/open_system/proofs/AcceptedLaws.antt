@@ -75,7 +75,7 @@ module _ {n rows r : ℕ} where
   accepted-right (p ∷ a) b k = accepted-right a b (accepted-rest p (a ++ b) k)
 
   -- of terms with the products g, those of the term at a place
-  accepted-at : {A : Type 0} (g : A → List Items) (l : List A) (i : ℕ) (d : A) → i < length l → Accepted n rows r (concatMap g l) → Accepted n rows r (g (getD l i d))
+  pub accepted-at : {A : Type 0} (g : A → List Items) (l : List A) (i : ℕ) (d : A) → i < length l → Accepted n rows r (concatMap g l) → Accepted n rows r (g (getD l i d))
   accepted-at g [] i d h k = absurd (not-suc-le-zero h)
   accepted-at g (x ∷ l) zero d h k = accepted-left (g x) (concatMap g l) (subst (Accepted n rows r) (concatMap-cons g x l) k)
   accepted-at g (x ∷ l) (suc i) d h k = accepted-at g l i d (le-of-suc-le-suc h) (accepted-right (g x) (concatMap g l) (subst (Accepted n rows r) (concatMap-cons g x l) k))

@@ -20,6 +20,7 @@ use Rattle.complex.specs.Wholes.{partsOf, bothWhole}
 use Rattle.complex.specs.declared.Complex.{Complex}
 use Rattle.complex.proofs.WholeLaws.{parts-abs}
 use Rattle.products.specs.Record.{letterAt}
+use Rattle.products.specs.Masks.{masksOf}
 use Rattle.products.specs.Answers.{mostSpins}
 use Rattle.products.specs.declared.items.Items.{Items}
 use Rattle.terms.specs.Keyed.{each, concatMap}
@@ -60,21 +61,22 @@ read-parts x {z} e = read-small z (rw e (omega (arith, parts-abs x))) ∙ e
 
 module _ (n r : ℕ) where
   -- what is put of a term: a and b are the values found
-  pub exact-commutator-put : (t : Term) → Accepted n (2 ^ n * 2 ^ n) r (t .items ∷ []) → {left right : ℕ × ℕ} → left ∷ right ∷ [] ≡ commutatorEntries (t .items) n r
+  pub exact-commutator-put : (t : Term) → Accepted n (2 ^ n * 2 ^ n) r (t .items ∷ []) → {m : ℕ} → m ≡ masksOf (t .items) → {left right : ℕ × ℕ} → left ∷ right ∷ [] ≡ commutatorEntries m n r
       → {x y : ℤ} → x ≡ partsOf (t .coefficient .re) → y ≡ partsOf (t .coefficient .im)
       → {a b : G} → a ≡ halves .scaled (left .1) (taken (whole x y)) → b ≡ halves .scaled (right .1) (taken (whole x y))
       → (l : List (ℕ × G)) {l′ l″ : List (ℕ × G)} → l′ ≡ l ++ (left .0, a) ∷ [] → l″ ≡ l′ ++ (right .0, b) ∷ [] → l″ ≡ l ++ exactCommutatorPart n r t
-  exact-commutator-put t k {left} {right} e ex ey ea eb =
+  exact-commutator-put t k em {left} {right} e ex ey ea eb =
       let g = gauss-taken (t .coefficient) ex ey in
-      put-commutator halves (gaussOf (t .coefficient)) n r (t .items) k e (ea ∙ ap (halves .scaled (left .1)) g) (eb ∙ ap (halves .scaled (right .1)) g)
+      put-commutator halves (gaussOf (t .coefficient)) n r (t .items) k em e (ea ∙ ap (halves .scaled (left .1)) g) (eb ∙ ap (halves .scaled (right .1)) g)
 
-  pub exact-noise-put : (t : NoiseTerm) → Accepted n (2 ^ n * 2 ^ n) r (sides t) → {jump left right : ℕ × ℕ} → jump ∷ left ∷ right ∷ [] ≡ noiseEntries (t .left) (t .right) n r
+  pub exact-noise-put : (t : NoiseTerm) → Accepted n (2 ^ n * 2 ^ n) r (sides t) → {m m′ : ℕ} → m ≡ masksOf (t .left) → m′ ≡ masksOf (t .right)
+      → {jump left right : ℕ × ℕ} → jump ∷ left ∷ right ∷ [] ≡ noiseEntries m m′ n r
       → {x y : ℤ} → x ≡ partsOf (t .coefficient .re) → y ≡ partsOf (t .coefficient .im)
       → {a b d : G} → a ≡ halves .scaled (jump .1) (taken (whole x y)) → b ≡ halves .minusHalf (left .1) (taken (whole x y)) → d ≡ halves .minusHalf (right .1) (taken (whole x y))
       → (l : List (ℕ × G)) {l′ l″ l‴ : List (ℕ × G)} → l′ ≡ l ++ (jump .0, a) ∷ [] → l″ ≡ l′ ++ (left .0, b) ∷ [] → l‴ ≡ l″ ++ (right .0, d) ∷ [] → l‴ ≡ l ++ exactNoisePart n r t
-  exact-noise-put t k {jump} {left} {right} e ex ey ea eb ed =
+  exact-noise-put t k em em′ {jump} {left} {right} e ex ey ea eb ed =
       let g = gauss-taken (t .coefficient) ex ey in
-      put-noise halves (gaussOf (t .coefficient)) n r (t .left) (t .right) k e (ea ∙ ap (halves .scaled (jump .1)) g) (eb ∙ ap (halves .minusHalf (left .1)) g) (ed ∙ ap (halves .minusHalf (right .1)) g)
+      put-noise halves (gaussOf (t .coefficient)) n r (t .left) (t .right) k em em′ e (ea ∙ ap (halves .scaled (jump .1)) g) (eb ∙ ap (halves .minusHalf (left .1)) g) (ed ∙ ap (halves .minusHalf (right .1)) g)
 
   -- ---- every contribution is small
 

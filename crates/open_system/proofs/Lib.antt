@@ -2,6 +2,7 @@ pub mod OutsideLaws
 pub mod AcceptedLaws
 pub mod JudgingLaws
 pub mod WritingLaws
+pub mod MaskedLaws
 pub mod ExactWritingLaws
 pub mod SystemRowLaws
 pub mod SystemTheorems

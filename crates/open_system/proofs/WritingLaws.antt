@@ -2,7 +2,7 @@
 -- Assumes nothing.
 use Prim.Native.Nat.{ℕ, _+_, _*_, _/_, _%_, _^_, _≤_, _<_, min}
 use native.Mathlib.Omega.{arith}
-use mathlib.Core.Path.{_≡_, sym, ap, _∙_}
+use mathlib.Core.Path.{_≡_, sym, ap, ap₂, _∙_}
 use mathlib.Core.List.{List, [], _∷_, _++_, append-assoc, append-nil}
 use lib.Ieee.{Float}
 use lib.ListN.{length, take, getD}
@@ -11,6 +11,7 @@ use Rattle.complex.specs.declared.Complex.{Complex}
 use Rattle.letters.specs.Matrices.{lettersOf}
 use Rattle.letters.specs.declared.Kind.{Kind}
 use Rattle.products.specs.Record.{letterAt}
+use Rattle.products.specs.Masks.{masksOf}
 use Rattle.products.specs.declared.items.Items.{Items}
 use Rattle.terms.specs.Keyed.{concatMap}
 use Rattle.terms.specs.Setting.{mostTerms}
@@ -31,35 +32,36 @@ use Rattle.open_system.proofs.AcceptedLaws.{accepted-first, accepted-re
 
 -- ---- the contributions of one term, put one after the other
 
--- in any numbers: x and y are the entries that the code finds, a and b the values that it puts
+-- in any numbers: m are the masks of the product, x and y the entries that the code finds, a and b the values that it puts
 module _ {C N : Type 0} (A : Numbers C N) (c : C) (n r : ℕ) where
   -- one contribution, with the column and power x
-  put-operator : (kind : Kind) (p : Items) → Accepted n (2 ^ n) r (p ∷ []) → {x : ℕ × ℕ} → x ≡ entryOf (lettersOf kind) p n r → {a : N} → a ≡ A .scaled (x .1) c
+  put-operator : (kind : Kind) (p : Items) → Accepted n (2 ^ n) r (p ∷ []) → {m : ℕ} → m ≡ masksOf p → {x : ℕ × ℕ} → x ≡ entryOf (lettersOf kind) m n r → {a : N} → a ≡ A .scaled (x .1) c
       → (l : List (ℕ × N)) {l′ : List (ℕ × N)} → l′ ≡ l ++ (x .0, a) ∷ [] → l′ ≡ l ++ operatorTerms A n (lettersOf kind) r (letterAt p) c
-  put-operator kind p k {x} e ea l put =
+  put-operator kind p k em {x} e ea l put =
       put
       ∙ ap (λ (v : N). l ++ (x .0, v) ∷ []) ea
-      ∙ ap (λ (q : ℕ × ℕ). l ++ (q .0, A .scaled (q .1) c) ∷ []) e
+      ∙ ap (λ (q : ℕ × ℕ). l ++ (q .0, A .scaled (q .1) c) ∷ []) (e ∙ ap (λ (m : ℕ). entryOf (lettersOf kind) m n r) em)
       ∙ ap (λ (q : List (ℕ × N)). l ++ q) (sym (operator-terms A c n (k .few) (of-kind kind) p (accepted-first p [] k) r (k .below)))
 
-  pub put-commutator : (p : Items) → Accepted n (2 ^ n * 2 ^ n) r (p ∷ []) → {left right : ℕ × ℕ} → left ∷ right ∷ [] ≡ commutatorEntries p n r
+  pub put-commutator : (p : Items) → Accepted n (2 ^ n * 2 ^ n) r (p ∷ []) → {m : ℕ} → m ≡ masksOf p → {left right : ℕ × ℕ} → left ∷ right ∷ [] ≡ commutatorEntries m n r
       → {a b : N} → a ≡ A .scaled (left .1) c → b ≡ A .scaled (right .1) c
       → (l : List (ℕ × N)) {l′ l″ : List (ℕ × N)} → l′ ≡ l ++ (left .0, a) ∷ [] → l″ ≡ l′ ++ (right .0, b) ∷ []
       → l″ ≡ l ++ commutatorTerms A n (r / 2 ^ n) (r % 2 ^ n) (letterAt p) c
-  put-commutator p k {left} {right} e {a} {b} ea eb l {l′} {l″} first second =
+  put-commutator p k em {left} {right} e {a} {b} ea eb l {l′} {l″} first second =
       let x : ℕ × N = (left .0, A .scaled (left .1) c) in
       let y : ℕ × N = (right .0, A .scaled (right .1) c) in
       second
       ∙ ap (λ (v : N). l′ ++ (right .0, v) ∷ []) eb
       ∙ ap (λ (q : List (ℕ × N)). q ++ y ∷ []) (first ∙ ap (λ (v : N). l ++ (left .0, v) ∷ []) ea)
       ∙ append-assoc l (x ∷ []) (y ∷ [])
-      ∙ ap (λ (q : List (ℕ × N)). l ++ q) (sym (commutator-contributes A c n (k .few) r (k .below) p (accepted-first p [] k) e))
+      ∙ ap (λ (q : List (ℕ × N)). l ++ q) (sym (commutator-contributes A c n (k .few) r (k .below) p (accepted-first p [] k) (e ∙ ap (λ (m : ℕ). commutatorEntries m n r) em)))
 
-  pub put-noise : (p q : Items) → Accepted n (2 ^ n * 2 ^ n) r (p ∷ q ∷ []) → {jump left right : ℕ × ℕ} → jump ∷ left ∷ right ∷ [] ≡ noiseEntries p q n r
+  pub put-noise : (p q : Items) → Accepted n (2 ^ n * 2 ^ n) r (p ∷ q ∷ []) → {m m′ : ℕ} → m ≡ masksOf p → m′ ≡ masksOf q
+      → {jump left right : ℕ × ℕ} → jump ∷ left ∷ right ∷ [] ≡ noiseEntries m m′ n r
       → {a b d : N} → a ≡ A .scaled (jump .1) c → b ≡ A .minusHalf (left .1) c → d ≡ A .minusHalf (right .1) c
       → (l : List (ℕ × N)) {l′ l″ l‴ : List (ℕ × N)} → l′ ≡ l ++ (jump .0, a) ∷ [] → l″ ≡ l′ ++ (left .0, b) ∷ [] → l‴ ≡ l″ ++ (right .0, d) ∷ []
       → l‴ ≡ l ++ noiseTerms A n (r / 2 ^ n) (r % 2 ^ n) (letterAt p) (letterAt q) c
-  put-noise p q k {jump} {left} {right} e {a} {b} {d} ea eb ed l {l′} {l″} {l‴} first second third =
+  put-noise p q k em em′ {jump} {left} {right} e {a} {b} {d} ea eb ed l {l′} {l″} {l‴} first second third =
       let x₁ : ℕ × N = (jump .0, A .scaled (jump .1) c) in
       let x₂ : ℕ × N = (left .0, A .minusHalf (left .1) c) in
       let x₃ : ℕ × N = (right .0, A .minusHalf (right .1) c) in
@@ -73,28 +75,29 @@ module _ {C N : Type 0} (A : Numbers C N) (c : C) (n r : ℕ) where
       ∙ ap (λ (z : List (ℕ × N)). z ++ x₂ ∷ []) (first ∙ ap (λ (v : N). l ++ (jump .0, v) ∷ []) ea)
       ∙ append-assoc l (x₁ ∷ []) (x₂ ∷ []))
       ∙ append-assoc l (x₁ ∷ x₂ ∷ []) (x₃ ∷ [])
-      ∙ ap (λ (z : List (ℕ × N)). l ++ z) (sym (noise-contributes A c n (k .few) r (k .below) p q w w′ e))
+      ∙ ap (λ (z : List (ℕ × N)). l ++ z) (sym (noise-contributes A c n (k .few) r (k .below) p q w w′ (e ∙ ap₂ (λ (m m′ : ℕ). noiseEntries m m′ n r) em em′)))
 
--- in f64: a value is the coefficient times the unit u
+-- in f64: a value is the coefficient c times the unit u
 module _ (t : Term) (n r : ℕ) where
-  pub operator-put : (kind : Kind) → Accepted n (2 ^ n) r (t .items ∷ []) → {x : ℕ × ℕ} → x ≡ entryOf (lettersOf kind) (t .items) n r
+  pub operator-put : (kind : Kind) → Accepted n (2 ^ n) r (t .items ∷ []) → {m : ℕ} → m ≡ masksOf (t .items) → {x : ℕ × ℕ} → x ≡ entryOf (lettersOf kind) m n r
       → {u a : Complex} → u ≡ unitOfI (x .1) → a ≡ productOf (t .coefficient) u
       → (l : List (ℕ × Complex)) {l′ : List (ℕ × Complex)} → l′ ≡ l ++ (x .0, a) ∷ [] → l′ ≡ l ++ operatorPart (lettersOf kind) n r t
-  operator-put kind k e eu ea = put-operator floats (t .coefficient) n r kind (t .items) k e (ea ∙ ap (productOf (t .coefficient)) eu)
+  operator-put kind k em e eu ea = put-operator floats (t .coefficient) n r kind (t .items) k em e (ea ∙ ap (productOf (t .coefficient)) eu)
 
-  pub commutator-put : Accepted n (2 ^ n * 2 ^ n) r (t .items ∷ []) → {left right : ℕ × ℕ} → left ∷ right ∷ [] ≡ commutatorEntries (t .items) n r
-      → {u v a b : Complex} → u ≡ unitOfI (left .1) → a ≡ productOf (t .coefficient) u → v ≡ unitOfI (right .1) → b ≡ productOf (t .coefficient) v
+  pub commutator-put : {m : ℕ} {c : Complex} → m ≡ masksOf (t .items) → c ≡ t .coefficient → Accepted n (2 ^ n * 2 ^ n) r (t .items ∷ [])
+      → {left right : ℕ × ℕ} → left ∷ right ∷ [] ≡ commutatorEntries m n r
+      → {u v a b : Complex} → u ≡ unitOfI (left .1) → a ≡ productOf c u → v ≡ unitOfI (right .1) → b ≡ productOf c v
       → (l : List (ℕ × Complex)) {l′ l″ : List (ℕ × Complex)} → l′ ≡ l ++ (left .0, a) ∷ [] → l″ ≡ l′ ++ (right .0, b) ∷ [] → l″ ≡ l ++ commutatorPart n r t
-  commutator-put k e eu ea ev eb = put-commutator floats (t .coefficient) n r (t .items) k e (ea ∙ ap (productOf (t .coefficient)) eu) (eb ∙ ap (productOf (t .coefficient)) ev)
+  commutator-put em ec k e eu ea ev eb = put-commutator floats (t .coefficient) n r (t .items) k em e (ea ∙ ap₂ productOf ec eu) (eb ∙ ap₂ productOf ec ev)
 
-pub noise-put : (t : NoiseTerm) (n r : ℕ) → Accepted n (2 ^ n * 2 ^ n) r (sides t) → {jump left right : ℕ × ℕ} → jump ∷ left ∷ right ∷ [] ≡ noiseEntries (t .left) (t .right) n r
-    → {u v z a b d : Complex} → u ≡ unitOfI (jump .1) → a ≡ productOf (t .coefficient) u → v ≡ minusHalfUnit (left .1) → b ≡ productOf (t .coefficient) v
-    → z ≡ minusHalfUnit (right .1) → d ≡ productOf (t .coefficient) z
+pub noise-put : (t : NoiseTerm) (n r : ℕ) {m m′ : ℕ} {c : Complex} → m ≡ masksOf (t .left) → m′ ≡ masksOf (t .right) → c ≡ t .coefficient → Accepted n (2 ^ n * 2 ^ n) r (sides t)
+    → {jump left right : ℕ × ℕ} → jump ∷ left ∷ right ∷ [] ≡ noiseEntries m m′ n r
+    → {u v z a b d : Complex} → u ≡ unitOfI (jump .1) → a ≡ productOf c u → v ≡ minusHalfUnit (left .1) → b ≡ productOf c v
+    → z ≡ minusHalfUnit (right .1) → d ≡ productOf c z
     → (l : List (ℕ × Complex)) {l′ l″ l‴ : List (ℕ × Complex)} → l′ ≡ l ++ (jump .0, a) ∷ [] → l″ ≡ l′ ++ (left .0, b) ∷ [] → l‴ ≡ l″ ++ (right .0, d) ∷ []
     → l‴ ≡ l ++ noisePart n r t
-noise-put t n r k e eu ea ev eb ez ed =
-    let c = t .coefficient in
-    put-noise floats c n r (t .left) (t .right) k e (ea ∙ ap (productOf c) eu) (eb ∙ ap (productOf c) ev) (ed ∙ ap (productOf c) ez)
+noise-put t n r em em′ ec k e eu ea ev eb ez ed =
+    put-noise floats (t .coefficient) n r (t .left) (t .right) k em em′ e (ea ∙ ap₂ productOf ec eu) (eb ∙ ap₂ productOf ec ev) (ed ∙ ap₂ productOf ec ez)
 
 -- ---- the loops: t are the places of a set, m of them hold terms, f t are the contributions of the term t where Ok holds
 

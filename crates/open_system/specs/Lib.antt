@@ -1,4 +1,5 @@
 pub mod Accepted
+pub mod Masked
 pub mod OperatorRows
 pub mod NoiseRows
 pub mod OpenRows

@@ -1,22 +1,25 @@
-// The contributions of a set's terms to a row, in term order, into three arrays.
+// The contributions of terms to a row, in term order, into three arrays: of a set's terms, and of terms given by their masks.
 ghost use mathlib.Core.Path.{_≡_};
-ghost use mathlib.Core.List.{[], _∷_, _++_};
+ghost use mathlib.Core.List.{List, [], _∷_, _++_};
 ghost use Prim.Native.Nat.{_+_, _*_, _^_, _≤_, _<_};
 ghost use Rattle.letters.specs.Matrices.{lettersOf};
+ghost use Rattle.products.specs.Masks.{masksOf};
 ghost use Rattle.rows.specs.Buffers.{Long, entries};
 ghost use Rattle.operators.specs.Complexes as complexes;
+ghost use Rattle.operators.specs.declared.term_set.Term.{Term};
 ghost use Rattle.noise.specs.Pairs as pairs;
+ghost use Rattle.noise.specs.declared.noise_set.NoiseTerm.{NoiseTerm};
 ghost use Rattle.open_system.specs.Accepted.{Accepted};
+ghost use Rattle.open_system.specs.Masked.{MaskedTerms, MaskedPairs};
 ghost use Rattle.open_system.specs.OperatorRows.{itemsOf, commutatorPart, operatorContributions, commutatorContributions};
 ghost use Rattle.open_system.specs.NoiseRows.{sides, noisePart, noiseContributions};
 ghost use Rattle.open_system.specs.NoiseRows as noise_rows;
 use complex::Complex;
 use letters::Kind;
 use noise::noise_set::NoiseSet;
-use noise::noise_set::NoiseTerm;
-use operators::term_set::Term;
 use operators::term_set::TermSet;
 use operators::term_set::held_count;
+use products::row::masks;
 use rows::entries::commutator_entries;
 use rows::entries::minus_half_unit;
 use rows::entries::noise_entries;
@@ -56,7 +59,7 @@ pub(crate) fn write_operator(
     while i < n {
         let t = s.terms[i];
         let a = t.coefficient;
-        let e = operator_entry(kind, t.items, spins, row);
+        let e = operator_entry(kind, masks(t.items), spins, row);
         let value = a.product(complex::unit_of_i(e.power));
         put(e.column, value, i, columns, re, im);
         i += 1;
@@ -64,9 +67,10 @@ pub(crate) fn write_operator(
     n
 }
 
-// The two contributions of a term to a commutator's row, from a place on: its left half, then its right half.
+// The two contributions of a term with these masks to a commutator's row, from a place on: its left half, then its right half.
 fn put_commutator(
-    t: Term,
+    masks: u64,
+    c: Complex,
     spins: u32,
     row: u64,
     at: usize,
@@ -75,10 +79,9 @@ fn put_commutator(
     im: &mut [f64; 320],
 )
     requires { ⌜ at + 2 ≤ 320 ⌝ }
-    ensures { λ r. ⌜ (Long (now (columns .entry)) (now (re .entry)) (now (im .entry)) → (Accepted spins (2 ^ spins * 2 ^ spins) row (t .items ∷ []) → entries (now (columns .exit)) (now (re .exit)) (now (im .exit)) (at + 2) ≡ entries (now (columns .entry)) (now (re .entry)) (now (im .entry)) at ++ commutatorPart spins row t) × Long (now (columns .exit)) (now (re .exit)) (now (im .exit))) ⌝ }
+    ensures { λ r. ⌜ (Long (now (columns .entry)) (now (re .entry)) (now (im .entry)) → ((t : Term) → masks ≡ masksOf (t .items) → c ≡ t .coefficient → Accepted spins (2 ^ spins * 2 ^ spins) row (t .items ∷ []) → entries (now (columns .exit)) (now (re .exit)) (now (im .exit)) (at + 2) ≡ entries (now (columns .entry)) (now (re .entry)) (now (im .entry)) at ++ commutatorPart spins row t) × Long (now (columns .exit)) (now (re .exit)) (now (im .exit))) ⌝ }
 {
-    let c = t.coefficient;
-    let e = commutator_entries(t.items, spins, row);
+    let e = commutator_entries(masks, spins, row);
     let left = e.left;
     let right = e.right;
     let a = c.product(complex::unit_of_i(left.power));
@@ -102,15 +105,52 @@ pub(crate) fn write_commutator(
     let mut i = 0;
     while i < n {
         let t = s.terms[i];
-        put_commutator(t, spins, row, 2 * i, columns, re, im);
+        put_commutator(
+            masks(t.items),
+            t.coefficient,
+            spins,
+            row,
+            2 * i,
+            columns,
+            re,
+            im,
+        );
         i += 1;
     }
     2 * n
 }
 
-// The three contributions of a noise term, from a place on.
+// The same of n terms with real coefficients, given by arrays.
+pub(crate) fn write_hamiltonian(
+    masks: &[u64; 64],
+    parts: &[f64; 64],
+    n: usize,
+    spins: u32,
+    row: u64,
+    columns: &mut [u64; 320],
+    re: &mut [f64; 320],
+    im: &mut [f64; 320],
+) -> usize
+    requires { ⌜ n ≤ 64 ⌝ }
+    ensures { λ r. ⌜ (r ≡ 2 * n) × (Long (now (columns .entry)) (now (re .entry)) (now (im .entry)) → (l : List Term) → MaskedTerms (now (masks .entry)) (now (parts .entry)) n l → Accepted spins (2 ^ spins * 2 ^ spins) row (itemsOf l) → entries (now (columns .exit)) (now (re .exit)) (now (im .exit)) r ≡ commutatorContributions spins row l) ⌝ }
+{
+    let mut i = 0;
+    while i < n {
+        let c = Complex {
+            re: parts[i],
+            im: 0.0,
+        };
+        put_commutator(masks[i], c, spins, row, 2 * i, columns, re, im);
+        i += 1;
+    }
+    2 * n
+}
+
+// The three contributions of a noise term whose sides have the masks `left` and `right`, from a place on.
 fn put_noise(
-    t: NoiseTerm,
+    left: u64,
+    right: u64,
+    c: Complex,
     spins: u32,
     row: u64,
     at: usize,
@@ -119,20 +159,19 @@ fn put_noise(
     im: &mut [f64; 320],
 )
     requires { ⌜ at + 3 ≤ 320 ⌝ }
-    ensures { λ r. ⌜ (Long (now (columns .entry)) (now (re .entry)) (now (im .entry)) → (Accepted spins (2 ^ spins * 2 ^ spins) row (sides t) → entries (now (columns .exit)) (now (re .exit)) (now (im .exit)) (at + 3) ≡ entries (now (columns .entry)) (now (re .entry)) (now (im .entry)) at ++ noisePart spins row t) × Long (now (columns .exit)) (now (re .exit)) (now (im .exit))) ⌝ }
+    ensures { λ r. ⌜ (Long (now (columns .entry)) (now (re .entry)) (now (im .entry)) → ((t : NoiseTerm) → left ≡ masksOf (t .left) → right ≡ masksOf (t .right) → c ≡ t .coefficient → Accepted spins (2 ^ spins * 2 ^ spins) row (sides t) → entries (now (columns .exit)) (now (re .exit)) (now (im .exit)) (at + 3) ≡ entries (now (columns .entry)) (now (re .entry)) (now (im .entry)) at ++ noisePart spins row t) × Long (now (columns .exit)) (now (re .exit)) (now (im .exit))) ⌝ }
 {
-    let c = t.coefficient;
-    let e = noise_entries(t.left, t.right, spins, row);
+    let e = noise_entries(left, right, spins, row);
     let jump = e.jump;
-    let left = e.left;
-    let right = e.right;
+    let on_left = e.left;
+    let on_right = e.right;
     let a = c.product(complex::unit_of_i(jump.power));
-    let b = c.product(minus_half_unit(left.power));
-    let d = c.product(minus_half_unit(right.power));
+    let b = c.product(minus_half_unit(on_left.power));
+    let d = c.product(minus_half_unit(on_right.power));
     put(jump.column, a, at, columns, re, im);
     let next = at + 1;
-    put(left.column, b, next, columns, re, im);
-    put(right.column, d, next + 1, columns, re, im);
+    put(on_left.column, b, next, columns, re, im);
+    put(on_right.column, d, next + 1, columns, re, im);
 }
 
 // The contributions of a noise set's terms, three of each term; how many there are.
@@ -150,7 +189,45 @@ pub(crate) fn write_noise(
     let mut i = 0;
     while i < n {
         let t = s.terms[i];
-        put_noise(t, spins, row, 3 * i, columns, re, im);
+        put_noise(
+            masks(t.left),
+            masks(t.right),
+            t.coefficient,
+            spins,
+            row,
+            3 * i,
+            columns,
+            re,
+            im,
+        );
+        i += 1;
+    }
+    3 * n
+}
+
+// The contributions of n noise terms given by arrays, three of each term; how many there are.
+pub(crate) fn write_pairs(
+    lefts: &[u64; 64],
+    rights: &[u64; 64],
+    res: &[f64; 64],
+    ims: &[f64; 64],
+    n: usize,
+    spins: u32,
+    row: u64,
+    columns: &mut [u64; 320],
+    re: &mut [f64; 320],
+    im: &mut [f64; 320],
+) -> usize
+    requires { ⌜ n ≤ 64 ⌝ }
+    ensures { λ r. ⌜ (r ≡ 3 * n) × (Long (now (columns .entry)) (now (re .entry)) (now (im .entry)) → (l : List NoiseTerm) → MaskedPairs (now (lefts .entry)) (now (rights .entry)) (now (res .entry)) (now (ims .entry)) n l → Accepted spins (2 ^ spins * 2 ^ spins) row (noise_rows.itemsOf l) → entries (now (columns .exit)) (now (re .exit)) (now (im .exit)) r ≡ noiseContributions spins row l) ⌝ }
+{
+    let mut i = 0;
+    while i < n {
+        let c = Complex {
+            re: res[i],
+            im: ims[i],
+        };
+        put_noise(lefts[i], rights[i], c, spins, row, 3 * i, columns, re, im);
         i += 1;
     }
     3 * n

@@ -21,6 +21,7 @@ use noise::noise_set::NoiseTerm;
 use operators::term_set::Term;
 use operators::term_set::TermSet;
 use operators::term_set::held_count;
+use products::row::masks;
 use rows::entries::commutator_entries;
 use rows::entries::noise_entries;
 use rows::halves::Halves;
@@ -123,7 +124,7 @@ fn put_commutator(
     let c = t.coefficient;
     let x = parts_of(c.re);
     let y = parts_of(c.im);
-    let e = commutator_entries(t.items, spins, row);
+    let e = commutator_entries(masks(t.items), spins, row);
     let left = e.left;
     let right = e.right;
     let a = scaled_halves(left.power, x, y);
@@ -169,7 +170,7 @@ fn put_noise(
     let c = t.coefficient;
     let x = parts_of(c.re);
     let y = parts_of(c.im);
-    let e = noise_entries(t.left, t.right, spins, row);
+    let e = noise_entries(masks(t.left), masks(t.right), spins, row);
     let jump = e.jump;
     let left = e.left;
     let right = e.right;

@@ -1,14 +1,24 @@
-// The first product of a set with a site at the spin count or above, by its highest site.
+// The first product of a set with a site at the spin count or above, by its highest site; and whether masks show that there is none.
 ghost use mathlib.Core.Path.{_≡_};
+ghost use mathlib.Core.Bool.{true};
+ghost use mathlib.Core.List.{List, [], map};
+ghost use Prim.Native.Nat.{_≤_};
+ghost use lib.ListN.{length, take};
 ghost use Rattle.refusal.specs.Refusals.{carried};
+ghost use Rattle.products.specs.Record.{valid};
+ghost use Rattle.products.specs.Masks.{masksOf};
+ghost use Rattle.products.specs.declared.items.Items.{Items};
+ghost use Rattle.terms.specs.Keyed.{each};
 ghost use Rattle.rows.specs.Calls.{outside};
 ghost use Rattle.operators.specs.Complexes as complexes;
 ghost use Rattle.noise.specs.Pairs as pairs;
 ghost use Rattle.open_system.specs.OperatorRows.{itemsOf};
 ghost use Rattle.open_system.specs.NoiseRows as noise_rows;
+use crate::size_of;
 use noise::noise_set::NoiseSet;
 use operators::term_set::TermSet;
 use operators::term_set::held_count;
+use products::row::MASK_SIZE;
 use products::row::reach_of;
 use refusal::Carried;
 
@@ -48,4 +58,19 @@ pub(crate) fn of_noise(s: NoiseSet, spins: u32) -> Carried
         i += 1;
     }
     Carried::Nothing
+}
+
+// Whether both halves of each of the first n masks are below 2^spins: then no valid product with these masks has a site at `spins` or above.
+pub(crate) fn fits(masks: &[u64; 64], n: usize, spins: u32) -> bool
+    requires { ⌜ (n ≤ 64) × (spins ≤ 31) ⌝ }
+    ensures { λ r. ⌜ (r ≡ true → (ps : List Items) → each (λ p qs. valid p) ps ≡ true → length ps ≡ n → take n (now (masks .entry)) ≡ map masksOf ps → outside spins ps ≡ []) ⌝ }
+{
+    let mut all: u64 = 0;
+    let mut i: usize = 0;
+    while i < n {
+        all = all | masks[i];
+        i += 1;
+    }
+    let size = size_of(spins);
+    all % MASK_SIZE < size && all / MASK_SIZE < size
 }

@@ -38,12 +38,12 @@ returns c long =
     let second = one .before .before .before .before in
     let first = second .before .before in
     let e = first .before .before .before .before in
-    let a = e .before .before .args in
+    let a = e .before .args in
     let two : a .at + 2 ≡ a .at + 1 + 1 = omega arith in
     let left = one .put .ensures long in
     let right = c .put2 .ensures (left .1) in (
-      λ ok. rw two
-          (commutator-put (a .t) (a .spins) (a .row) ok (e .commutator-entries .ensures) (first .before .unit-of-i .ensures) (first .product .ensures) (second .before .unit-of-i2 .ensures) (second .product2 .ensures) (entries (a .columns .now) (a .re .now) (a .im .now) (a .at)) (left .0) (right .0)),
+      λ t em ec ok. rw two
+          (commutator-put t (a .spins) (a .row) em ec ok (e .commutator-entries .ensures) (first .before .unit-of-i .ensures) (first .product .ensures) (second .before .unit-of-i2 .ensures) (second .product2 .ensures) (entries (a .columns .now) (a .re .now) (a .im .now) (a .at)) (left .0) (right .0)),
       right .1,
     )
 

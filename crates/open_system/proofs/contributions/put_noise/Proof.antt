@@ -33,16 +33,16 @@ put-requires : tie.Need-put-requires
 put-requires c κs = search needs
 
 add-next : tie.Need-add-next
-add-next c = omega (arith, c .before .before .before .before .before .before .before .before .before .before .before .before .before .before .before .pre)
+add-next c = omega (arith, c .before .before .before .before .before .before .before .before .before .before .before .before .before .before .pre)
 
 put-requires-2 : tie.Need-put-requires-2
-put-requires-2 c κs = omega (arith, c .before .before .before .before .before .before .before .before .before .before .before .before .before .before .before .before .before .before .pre)
+put-requires-2 c κs = omega (arith, c .before .before .before .before .before .before .before .before .before .before .before .before .before .before .before .before .before .pre)
 
 add-put : tie.Need-add-put
-add-put c = omega (arith, c .before .before .before .before .before .before .before .before .before .before .before .before .before .before .before .before .before .before .before .pre)
+add-put c = omega (arith, c .before .before .before .before .before .before .before .before .before .before .before .before .before .before .before .before .before .before .pre)
 
 put-requires-3 : tie.Need-put-requires-3
-put-requires-3 c κs = omega (arith, c .before .before .before .before .before .before .before .before .before .before .before .before .before .before .before .before .before .before .before .before .before .before .pre)
+put-requires-3 c κs = omega (arith, c .before .before .before .before .before .before .before .before .before .before .before .before .before .before .before .before .before .before .before .before .before .pre)
 
 returns : tie.Need-returns
 returns c long =
@@ -52,13 +52,13 @@ returns c long =
     let second = third .before .before in
     let first = second .before .before in
     let e = first .before .before .before .before .before in
-    let a = e .before .before .args in
+    let a = e .before .args in
     let three : a .at + 3 ≡ a .at + 1 + 1 + 1 = omega arith in
     let jump = one .put .ensures long in
     let left = two .put2 .ensures (jump .1) in
     let right = c .put3 .ensures (left .1) in (
-      λ ok. rw three
-          (noise-put (a .t) (a .spins) (a .row) ok (e .noise-entries .ensures) (first .before .unit-of-i .ensures) (first .product .ensures) (second .before .minus-half-unit .ensures) (second .product2 .ensures) (third .before .minus-half-unit2 .ensures) (third .product3 .ensures) (entries (a .columns .now) (a .re .now) (a .im .now) (a .at)) (jump .0) (left .0) (right .0)),
+      λ t em em′ ec ok. rw three
+          (noise-put t (a .spins) (a .row) em em′ ec ok (e .noise-entries .ensures) (first .before .unit-of-i .ensures) (first .product .ensures) (second .before .minus-half-unit .ensures) (second .product2 .ensures) (third .before .minus-half-unit2 .ensures) (third .product3 .ensures) (entries (a .columns .now) (a .re .now) (a .im .now) (a .at)) (jump .0) (left .0) (right .0)),
       right .1,
     )
 

@@ -1,6 +1,6 @@
 -- The loop's invariant: the first 2i entries are the contributions of the terms before the place i (`Writing`).
 use Prim.Native.Nat.{_-_, _*_, _^_}
-use mathlib.Core.Path.{_≡_}
+use mathlib.Core.Path.{_≡_, refl}
 use lib.ListN.{length, length-map, take}
 use native.Mathlib.Omega.{arith}
 use borrow.Author.Needs.{needs}
@@ -33,13 +33,16 @@ mul-t c = omega arith
 element-copy-out-t : tie.Need-element-copy-out-t Inv-loop μ-loop
 element-copy-out-t c = omega arith
 
+masks-requires : tie.Need-masks-requires Inv-loop μ-loop
+masks-requires c κs = search needs
+
 mul-put-commutator : tie.Need-mul-put-commutator Inv-loop μ-loop
 mul-put-commutator c = omega arith
 
 put-commutator-requires : tie.Need-put-commutator-requires Inv-loop μ-loop
 put-commutator-requires c κs =
-    let l = c .before .before .before .before .before in
-    omega (arith, l .loop .inv .few, c .before .before .before .before .loop-test .taken)
+    let l = c .before .before .before .before .before .before in
+    omega (arith, l .loop .inv .few, c .before .before .before .before .before .loop-test .taken)
 
 add-i : tie.Need-add-i Inv-loop μ-loop
 add-i c = omega arith
@@ -49,11 +52,11 @@ loop-less c = omega arith
 
 loop-again : tie.Need-loop-again Inv-loop μ-loop
 loop-again c =
-    let turn = c .before .before .before .before .before in
+    let turn = c .before .before .before .before .before .before in
     let l = turn .before in
     let a = l .before .before .args in
     writing-more (l .loop .inv) _ (turn .loop-test .taken) (omega arith)
-    (λ ok. c .put-commutator .ensures (l .loop .inv .long ok) .0 (product-accepted (a .t1 .terms) (a .t1 .count) _ (l .loop .inv .whole) (l .loop .inv .few) (turn .loop-test .taken) (ok .1)))
+    (λ ok. c .put-commutator .ensures (l .loop .inv .long ok) .0 _ (c .before .before .before .before .masks .ensures) refl (product-accepted (a .t1 .terms) (a .t1 .count) _ (l .loop .inv .whole) (l .loop .inv .few) (turn .loop-test .taken) (ok .1)))
     (λ ok. c .put-commutator .ensures (l .loop .inv .long ok) .1)
 
 mul-result : tie.Need-mul-result Inv-loop μ-loop
@@ -75,6 +78,7 @@ write-commutator-spec =
     loop-holds
     mul-t
     element-copy-out-t
+    masks-requires
     mul-put-commutator
     put-commutator-requires
     add-i

@@ -1,6 +1,6 @@
 -- The loop's invariant: the first 3i entries are the contributions of the terms before the place i (`Writing`).
 use Prim.Native.Nat.{_-_, _*_, _^_}
-use mathlib.Core.Path.{_≡_}
+use mathlib.Core.Path.{_≡_, refl}
 use lib.ListN.{length, length-map, take}
 use native.Mathlib.Omega.{arith}
 use borrow.Author.Needs.{needs}
@@ -33,13 +33,19 @@ mul-t c = omega arith
 element-copy-out-t : tie.Need-element-copy-out-t Inv-loop μ-loop
 element-copy-out-t c = omega arith
 
+masks-requires : tie.Need-masks-requires Inv-loop μ-loop
+masks-requires c κs = search needs
+
+masks-requires-2 : tie.Need-masks-requires-2 Inv-loop μ-loop
+masks-requires-2 c κs = search needs
+
 mul-put-noise : tie.Need-mul-put-noise Inv-loop μ-loop
 mul-put-noise c = omega arith
 
 put-noise-requires : tie.Need-put-noise-requires Inv-loop μ-loop
 put-noise-requires c κs =
-    let l = c .before .before .before .before .before in
-    omega (arith, l .loop .inv .few, c .before .before .before .before .loop-test .taken)
+    let l = c .before .before .before .before .before .before .before in
+    omega (arith, l .loop .inv .few, c .before .before .before .before .before .before .loop-test .taken)
 
 add-i : tie.Need-add-i Inv-loop μ-loop
 add-i c = omega arith
@@ -49,11 +55,11 @@ loop-less c = omega arith
 
 loop-again : tie.Need-loop-again Inv-loop μ-loop
 loop-again c =
-    let turn = c .before .before .before .before .before in
+    let turn = c .before .before .before .before .before .before .before in
     let l = turn .before in
     let a = l .before .before .args in
     writing-more (l .loop .inv) _ (turn .loop-test .taken) (omega arith)
-    (λ ok. c .put-noise .ensures (l .loop .inv .long ok) .0 (sides-accepted (a .t1 .terms) (a .t1 .count) _ (l .loop .inv .whole) (l .loop .inv .few) (turn .loop-test .taken) (ok .1)))
+    (λ ok. c .put-noise .ensures (l .loop .inv .long ok) .0 _ (c .before .before .before .before .before .masks .ensures) (c .before .before .before .before .masks2 .ensures) refl (sides-accepted (a .t1 .terms) (a .t1 .count) _ (l .loop .inv .whole) (l .loop .inv .few) (turn .loop-test .taken) (ok .1)))
     (λ ok. c .put-noise .ensures (l .loop .inv .long ok) .1)
 
 mul-result : tie.Need-mul-result Inv-loop μ-loop
@@ -75,6 +81,8 @@ write-noise-spec =
     loop-holds
     mul-t
     element-copy-out-t
+    masks-requires
+    masks-requires-2
     mul-put-noise
     put-noise-requires
     add-i

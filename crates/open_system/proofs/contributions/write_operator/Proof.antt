@@ -34,6 +34,9 @@ mul-t c = omega arith
 element-copy-out-t : tie.Need-element-copy-out-t Inv-loop μ-loop
 element-copy-out-t c = omega arith
 
+masks-requires : tie.Need-masks-requires Inv-loop μ-loop
+masks-requires c κs = search needs
+
 operator-entry-requires : tie.Need-operator-entry-requires Inv-loop μ-loop
 operator-entry-requires c κs = search needs
 
@@ -45,25 +48,25 @@ product-requires c κs = search needs
 
 put-requires : tie.Need-put-requires Inv-loop μ-loop
 put-requires c κs =
-    let l = c .before .before .before .before .before .before .before .before .before in
-    omega (arith, l .loop .inv .few, c .before .before .before .before .before .before .before .before .loop-test .taken)
+    let l = c .before .before .before .before .before .before .before .before .before .before in
+    omega (arith, l .loop .inv .few, c .before .before .before .before .before .before .before .before .before .loop-test .taken)
 
 add-i : tie.Need-add-i Inv-loop μ-loop
-add-i c = omega (arith, c .before .before .before .before .before .before .before .before .before .loop-test .taken)
+add-i c = omega (arith, c .before .before .before .before .before .before .before .before .before .before .loop-test .taken)
 
 loop-less : tie.Need-loop-less Inv-loop μ-loop
-loop-less c = omega (arith, c .before .before .before .before .before .before .before .before .before .loop-test .taken)
+loop-less c = omega (arith, c .before .before .before .before .before .before .before .before .before .before .loop-test .taken)
 
 loop-again : tie.Need-loop-again Inv-loop μ-loop
 loop-again c =
     let value = c .before .before .before .before in
     let e = value .before .before in
-    let turn = e .before .before .before in
+    let turn = e .before .before .before .before in
     let l = turn .before in
     let s = l .before .before in
     let a = s .args in
     writing-more (l .loop .inv) _ (turn .loop-test .taken) refl
-    (λ ok. operator-put _ (a .spins) (a .row) (a .kind) (product-accepted (a .t2 .terms) (a .t2 .count) _ (l .loop .inv .whole) (l .loop .inv .few) (turn .loop-test .taken) (ok .1)) (e .operator-entry .ensures) (value .before .unit-of-i .ensures) (value .product .ensures) (entries (l .loop .columns) (l .loop .re) (l .loop .im) (l .loop .i)) (c .put .ensures (l .loop .inv .long ok) .0))
+    (λ ok. operator-put _ (a .spins) (a .row) (a .kind) (product-accepted (a .t2 .terms) (a .t2 .count) _ (l .loop .inv .whole) (l .loop .inv .few) (turn .loop-test .taken) (ok .1)) (e .before .masks .ensures) (e .operator-entry .ensures) (value .before .unit-of-i .ensures) (value .product .ensures) (entries (l .loop .columns) (l .loop .re) (l .loop .im) (l .loop .i)) (c .put .ensures (l .loop .inv .long ok) .0))
     (λ ok. c .put .ensures (l .loop .inv .long ok) .1)
 
 returns : tie.Need-returns Inv-loop μ-loop
@@ -82,6 +85,7 @@ write-operator-spec =
     loop-holds
     mul-t
     element-copy-out-t
+    masks-requires
     operator-entry-requires
     unit-of-i-requires
     product-requires

@@ -14,6 +14,9 @@ parts-of-requires c κs = search needs
 parts-of-requires-2 : tie.Need-parts-of-requires-2
 parts-of-requires-2 c κs = search needs
 
+masks-requires : tie.Need-masks-requires
+masks-requires c κs = search needs
+
 commutator-entries-requires : tie.Need-commutator-entries-requires
 commutator-entries-requires c κs = search needs
 
@@ -38,14 +41,15 @@ returns c long =
     let second = one .before .before .before .before in
     let first = second .before in
     let e = first .before .before .before in
-    let y = e .before in
+    let m = e .before in
+    let y = m .before in
     let x = y .before in
     let a = x .before .before .args in
     let two : a .at + 2 ≡ a .at + 1 + 1 = omega arith in
     let left = one .put .ensures long in
     let right = c .put2 .ensures (left .1) in (
       λ ok. rw two
-          (exact-commutator-put (a .spins) (a .row) (a .t) ok (e .commutator-entries .ensures) (read-parts _ (x .parts-of .ensures)) (read-parts _ (y .parts-of2 .ensures)) (first .scaled-halves .ensures) (second .scaled-halves2 .ensures) (exactEntries (a .columns .now) (a .re .now) (a .im .now) (a .at)) (left .0) (right .0)),
+          (exact-commutator-put (a .spins) (a .row) (a .t) ok (m .masks .ensures) (e .commutator-entries .ensures) (read-parts _ (x .parts-of .ensures)) (read-parts _ (y .parts-of2 .ensures)) (first .scaled-halves .ensures) (second .scaled-halves2 .ensures) (exactEntries (a .columns .now) (a .re .now) (a .im .now) (a .at)) (left .0) (right .0)),
       right .1,
     )
 
@@ -55,6 +59,7 @@ put-commutator-spec =
     (tie.spec
     parts-of-requires
     parts-of-requires-2
+    masks-requires
     commutator-entries-requires
     scaled-halves-requires
     scaled-halves-requires-2

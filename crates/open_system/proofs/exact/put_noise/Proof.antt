@@ -14,6 +14,12 @@ parts-of-requires c κs = search needs
 parts-of-requires-2 : tie.Need-parts-of-requires-2
 parts-of-requires-2 c κs = search needs
 
+masks-requires : tie.Need-masks-requires
+masks-requires c κs = search needs
+
+masks-requires-2 : tie.Need-masks-requires-2
+masks-requires-2 c κs = search needs
+
 noise-entries-requires : tie.Need-noise-entries-requires
 noise-entries-requires c κs = search needs
 
@@ -36,10 +42,10 @@ put-requires-2 : tie.Need-put-requires-2
 put-requires-2 c κs = search needs
 
 add-put : tie.Need-add-put
-add-put c = search needs
+add-put c = omega (arith, c .before .before .before .before .before .before .before .before .before .before .before .before .before .before .before .before .before .before .before .before .pre)
 
 put-requires-3 : tie.Need-put-requires-3
-put-requires-3 c κs = omega (arith, c .before .before .before .before .before .before .before .before .before .before .before .before .before .before .before .before .before .before .before .before .before .pre)
+put-requires-3 c κs = omega (arith, c .before .before .before .before .before .before .before .before .before .before .before .before .before .before .before .before .before .before .before .before .before .before .before .pre)
 
 returns : tie.Need-returns
 returns c long =
@@ -49,7 +55,9 @@ returns c long =
     let second = third .before in
     let first = second .before in
     let e = first .before .before .before .before in
-    let y = e .before in
+    let m′ = e .before in
+    let m = m′ .before in
+    let y = m .before in
     let x = y .before in
     let a = x .before .before .args in
     let three : a .at + 3 ≡ a .at + 1 + 1 + 1 = omega arith in
@@ -57,7 +65,7 @@ returns c long =
     let left = two .put2 .ensures (jump .1) in
     let right = c .put3 .ensures (left .1) in (
       λ ok. rw three
-          (exact-noise-put (a .spins) (a .row) (a .t) ok (e .noise-entries .ensures) (read-parts _ (x .parts-of .ensures)) (read-parts _ (y .parts-of2 .ensures)) (first .scaled-halves .ensures) (second .minus-halves .ensures) (third .minus-halves2 .ensures) (exactEntries (a .columns .now) (a .re .now) (a .im .now) (a .at)) (jump .0) (left .0) (right .0)),
+          (exact-noise-put (a .spins) (a .row) (a .t) ok (m .masks .ensures) (m′ .masks2 .ensures) (e .noise-entries .ensures) (read-parts _ (x .parts-of .ensures)) (read-parts _ (y .parts-of2 .ensures)) (first .scaled-halves .ensures) (second .minus-halves .ensures) (third .minus-halves2 .ensures) (exactEntries (a .columns .now) (a .re .now) (a .im .now) (a .at)) (jump .0) (left .0) (right .0)),
       right .1,
     )
 
@@ -67,6 +75,8 @@ put-noise-spec =
     (tie.spec
     parts-of-requires
     parts-of-requires-2
+    masks-requires
+    masks-requires-2
     noise-entries-requires
     scaled-halves-requires
     minus-halves-requires
