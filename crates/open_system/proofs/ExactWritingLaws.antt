@@ -3,11 +3,9 @@
 -- Assumes nothing.
 use Prim.Native.Nat.{ℕ, _*_, _/_, _%_, _^_, _≤_, _<_}
 use native.Mathlib.Omega.{arith}
-use native.Mathlib.Nat.{le-trans}
-use mathlib.Core.Path.{_≡_, refl, sym, ap, ap₂, subst, _∙_}
-use mathlib.Core.Bool.{Bool, true, false, not, _&&_, cond}
+use mathlib.Core.Path.{_≡_, refl, ap, ap₂, _∙_}
+use mathlib.Core.Bool.{true, false}
 use mathlib.Core.List.{List, [], _∷_, _++_}
-use lib.Dec.{leb}
 use lib.IntN.{ℤ, natAbs}
 use lib.Ieee.{Float}
 use mir.Syntax.{w64}
@@ -22,7 +20,6 @@ use Rattle.complex.proofs.WholeLaws.{parts-abs}
 use Rattle.products.specs.Record.{letterAt}
 use Rattle.products.specs.Masks.{masksOf}
 use Rattle.products.specs.Answers.{mostSpins}
-use Rattle.products.specs.declared.items.Items.{Items}
 use Rattle.terms.specs.Keyed.{each, concatMap}
 use Rattle.rows.specs.Numbers.{halves}
 use Rattle.rows.specs.Buffers.{mostEntries}

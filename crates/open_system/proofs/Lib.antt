@@ -3,6 +3,7 @@ pub mod AcceptedLaws
 pub mod JudgingLaws
 pub mod WritingLaws
 pub mod MaskedLaws
+pub mod HandedLaws
 pub mod ExactWritingLaws
 pub mod SystemRowLaws
 pub mod SystemTheorems

@@ -7,7 +7,6 @@ ghost use Rattle.products.specs.Masks.{masksOf};
 ghost use Rattle.rows.specs.Buffers.{Long, entries};
 ghost use Rattle.operators.specs.Complexes as complexes;
 ghost use Rattle.operators.specs.declared.term_set.Term.{Term};
-ghost use Rattle.noise.specs.Pairs as pairs;
 ghost use Rattle.noise.specs.declared.noise_set.NoiseTerm.{NoiseTerm};
 ghost use Rattle.open_system.specs.Accepted.{Accepted};
 ghost use Rattle.open_system.specs.Masked.{MaskedTerms, MaskedPairs};
@@ -16,7 +15,6 @@ ghost use Rattle.open_system.specs.NoiseRows.{sides, noisePart, noiseCon
 ghost use Rattle.open_system.specs.NoiseRows as noise_rows;
 use complex::Complex;
 use letters::Kind;
-use noise::noise_set::NoiseSet;
 use operators::term_set::TermSet;
 use operators::term_set::held_count;
 use products::row::masks;
@@ -174,39 +172,8 @@ fn put_noise(
     put(on_right.column, d, next + 1, columns, re, im);
 }
 
-// The contributions of a noise set's terms, three of each term; how many there are.
-pub(crate) fn write_noise(
-    s: NoiseSet,
-    spins: u32,
-    row: u64,
-    columns: &mut [u64; 320],
-    re: &mut [f64; 320],
-    im: &mut [f64; 320],
-) -> usize
-    ensures { λ r. ⌜ (r ≤ 192) × (Long (now (columns .entry)) (now (re .entry)) (now (im .entry)) → Accepted spins (2 ^ spins * 2 ^ spins) row (noise_rows.itemsOf (pairs.heldBy s)) → entries (now (columns .exit)) (now (re .exit)) (now (im .exit)) r ≡ noiseContributions spins row (pairs.heldBy s)) ⌝ }
-{
-    let n = held_count(s.count);
-    let mut i = 0;
-    while i < n {
-        let t = s.terms[i];
-        put_noise(
-            masks(t.left),
-            masks(t.right),
-            t.coefficient,
-            spins,
-            row,
-            3 * i,
-            columns,
-            re,
-            im,
-        );
-        i += 1;
-    }
-    3 * n
-}
-
 // The contributions of n noise terms given by arrays, three of each term; how many there are.
-pub(crate) fn write_pairs(
+pub(crate) fn write_noise(
     lefts: &[u64; 64],
     rights: &[u64; 64],
     res: &[f64; 64],

@@ -1,18 +1,20 @@
 // Open systems: a Hamiltonian with noise, and the rows of their superoperator; rows of operators, Hamiltonians and noise sets.
 ghost use mathlib.Core.Path.{_≡_};
 ghost use mathlib.Core.Bool.{true, false};
-ghost use Prim.Native.Nat.{_*_, _^_, _<_};
+ghost use mathlib.Core.List.{List};
+ghost use Prim.Native.Nat.{_*_, _^_, _≤_, _<_};
 ghost use Rattle.refusal.specs.Refusals.{carried};
-ghost use Rattle.products.specs.Record.{valid};
-ghost use Rattle.terms.specs.Keyed.{each};
 ghost use Rattle.rows.specs.Buffers.{Delivered, saidDelivery, floatRow, openRow};
 ghost use Rattle.rows.specs.Calls.{RowCall, outside};
 ghost use Rattle.operators.specs.Complexes as complexes;
+ghost use Rattle.operators.specs.declared.term_set.Term.{Term};
 ghost use Rattle.noise.specs.Pairs as pairs;
+ghost use Rattle.noise.specs.declared.noise_set.NoiseTerm.{NoiseTerm};
 ghost use Rattle.open_system.specs.Accepted.{Accepted};
+ghost use Rattle.open_system.specs.Masked.{MaskedTerms, MaskedPairs};
 ghost use Rattle.open_system.specs.OperatorRows.{commutatorContributions};
 ghost use Rattle.open_system.specs.NoiseRows.{noiseContributions};
-ghost use Rattle.open_system.specs.OpenRows.{itemsOf, systemRowOf, systemRow};
+ghost use Rattle.open_system.specs.OpenRows.{itemsOf, systemRow};
 ghost use Rattle.open_system.specs.Grouping.{emptySystem, groupAnswer, toldSystem};
 
 mod contributions;
@@ -22,7 +24,7 @@ pub mod noise_row;
 pub mod operator_row;
 mod outside;
 
-use contributions::write_commutator;
+use contributions::write_hamiltonian;
 use contributions::write_noise;
 use noise::noise_set::NoiseSet;
 use noise::pauli_noise_operator::PauliLindbladNoiseOperator;
@@ -31,6 +33,7 @@ use operators::pauli_hamiltonian::complex_terms;
 use operators::term_set::TermSet;
 use outside::of_noise;
 use outside::of_operator;
+use outside::system_fits;
 use products::row::MOST_SPINS;
 use refusal::Carried;
 use refusal::Outcome;
@@ -106,27 +109,53 @@ pub(crate) fn outside_site(h: TermSet, n: NoiseSet, spins: u32) -> Carried
     }
 }
 
-// The row of a system whose terms fit the spins.
+// The row of terms that fit the spins, given by arrays: m of the Hamiltonian and n of the noise.
 fn delivered(
-    h: TermSet,
-    n: NoiseSet,
+    masks: &[u64; 64],
+    parts: &[f64; 64],
+    m: usize,
+    lefts: &[u64; 64],
+    rights: &[u64; 64],
+    res: &[f64; 64],
+    ims: &[f64; 64],
+    n: usize,
     spins: u32,
     row: u64,
     out_columns: &mut [u64],
     out_re: &mut [f64],
     out_im: &mut [f64],
 ) -> Delivery
-    requires { ⌜ Accepted spins (2 ^ spins * 2 ^ spins) row (itemsOf (complexes.heldBy h) (pairs.heldBy n)) ⌝ }
-    ensures { λ r. ⌜ Delivered (openRow (floatRow false (commutatorContributions spins row (complexes.heldBy h))) (floatRow true (noiseContributions spins row (pairs.heldBy n)))) (saidDelivery r) (now («out_columns» .entry)) (now («out_columns» .exit)) (now («out_re» .entry)) (now («out_re» .exit)) (now («out_im» .entry)) (now («out_im» .exit)) ⌝ }
+    requires { ⌜ (m ≤ 64) × (n ≤ 64) ⌝ }
+    ensures { λ r. ⌜ ((h : List Term) (w : List NoiseTerm) → MaskedTerms (now (masks .entry)) (now (parts .entry)) m h → MaskedPairs (now (lefts .entry)) (now (rights .entry)) (now (res .entry)) (now (ims .entry)) n w → Accepted spins (2 ^ spins * 2 ^ spins) row (itemsOf h w) → Delivered (openRow (floatRow false (commutatorContributions spins row h)) (floatRow true (noiseContributions spins row w))) (saidDelivery r) (now («out_columns» .entry)) (now («out_columns» .exit)) (now («out_re» .entry)) (now («out_re» .exit)) (now («out_im» .entry)) (now («out_im» .exit))) ⌝ }
 {
     let mut c_columns = [0u64; 320];
     let mut c_re = [0.0f64; 320];
     let mut c_im = [0.0f64; 320];
-    let c_n = write_commutator(h, spins, row, &mut c_columns, &mut c_re, &mut c_im);
+    let c_n = write_hamiltonian(
+        masks,
+        parts,
+        m,
+        spins,
+        row,
+        &mut c_columns,
+        &mut c_re,
+        &mut c_im,
+    );
     let mut n_columns = [0u64; 320];
     let mut n_re = [0.0f64; 320];
     let mut n_im = [0.0f64; 320];
-    let n_n = write_noise(n, spins, row, &mut n_columns, &mut n_re, &mut n_im);
+    let n_n = write_noise(
+        lefts,
+        rights,
+        res,
+        ims,
+        n,
+        spins,
+        row,
+        &mut n_columns,
+        &mut n_re,
+        &mut n_im,
+    );
     deliver_both(
         &c_columns,
         &c_re,
@@ -142,32 +171,8 @@ fn delivered(
     )
 }
 
-// The row of valid terms: 7, 9, 8, then the row.
-fn row_of(
-    h: TermSet,
-    n: NoiseSet,
-    spins: u32,
-    row: u64,
-    out_columns: &mut [u64],
-    out_re: &mut [f64],
-    out_im: &mut [f64],
-) -> Delivery
-    requires { ⌜ each (λ p ps. valid p) (itemsOf (complexes.heldBy h) (pairs.heldBy n)) ≡ true ⌝ }
-    ensures { λ r. ⌜ RowCall (systemRowOf spins row (complexes.heldBy h) (pairs.heldBy n)) (saidDelivery r) (now («out_columns» .entry)) (now («out_columns» .exit)) (now («out_re» .entry)) (now («out_re» .exit)) (now («out_im» .entry)) (now («out_im» .exit)) ⌝ }
-{
-    if MOST_SPINS < spins {
-        return Delivery::Refused(Refusal::TooManySpins);
-    }
-    if size_of(spins + spins) <= row {
-        return Delivery::Refused(Refusal::RowOutOfRange);
-    }
-    match outside_site(h, n, spins) {
-        Carried::Site(site) => Delivery::Refused(Refusal::SiteOutsideSpins(site)),
-        Carried::Nothing => delivered(h, n, spins, row, out_columns, out_re, out_im),
-    }
-}
-
-// The row of an open system's superoperator over `spins` spins.
+// The row of an open system's superoperator over `spins` spins: 0 for each part, 7, 9, 8, then the row. What judging hands out gives the row;
+// the sets are looked at again only where a mask does not fit the spins.
 pub fn row(
     s: PauliOpenSystem,
     spins: u32,
@@ -178,14 +183,44 @@ pub fn row(
 ) -> Delivery
     ensures { λ r. ⌜ RowCall (systemRow s spins row) (saidDelivery r) (now («out_columns» .entry)) (now («out_columns» .exit)) (now («out_re» .entry)) (now («out_re» .exit)) (now («out_im» .entry)) (now («out_im» .exit)) ⌝ }
 {
-    let h = s.system;
-    let n = s.noise.set;
-    if !h.is_valid() {
+    let h = operators::valid_reals::masked(s.system);
+    if !h.valid {
         return Delivery::Refused(Refusal::Malformed);
     }
-    if !noise::noise_set::is_valid(n) {
+    let n = noise::valid_pairs::masked(s.noise.set);
+    if !n.valid {
         return Delivery::Refused(Refusal::Malformed);
     }
-    let terms = complex_terms(h);
-    row_of(terms, n, spins, row, out_columns, out_re, out_im)
+    if MOST_SPINS < spins {
+        return Delivery::Refused(Refusal::TooManySpins);
+    }
+    if size_of(spins + spins) <= row {
+        return Delivery::Refused(Refusal::RowOutOfRange);
+    }
+    let masks = h.masks;
+    let lefts = n.lefts;
+    let rights = n.rights;
+    if !system_fits(&masks, h.count, &lefts, &rights, n.count, spins) {
+        if let Carried::Site(site) = outside_site(complex_terms(s.system), s.noise.set, spins) {
+            return Delivery::Refused(Refusal::SiteOutsideSpins(site));
+        }
+    }
+    let parts = h.parts;
+    let re = n.re;
+    let im = n.im;
+    delivered(
+        &masks,
+        &parts,
+        h.count,
+        &lefts,
+        &rights,
+        &re,
+        &im,
+        n.count,
+        spins,
+        row,
+        out_columns,
+        out_re,
+        out_im,
+    )
 }

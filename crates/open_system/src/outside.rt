@@ -11,9 +11,12 @@ ghost use Rattle.products.specs.declared.items.Items.{Items};
 ghost use Rattle.terms.specs.Keyed.{each};
 ghost use Rattle.rows.specs.Calls.{outside};
 ghost use Rattle.operators.specs.Complexes as complexes;
+ghost use Rattle.operators.specs.declared.term_set.Term.{Term};
 ghost use Rattle.noise.specs.Pairs as pairs;
+ghost use Rattle.noise.specs.declared.noise_set.NoiseTerm.{NoiseTerm};
 ghost use Rattle.open_system.specs.OperatorRows.{itemsOf};
 ghost use Rattle.open_system.specs.NoiseRows as noise_rows;
+ghost use Rattle.open_system.specs.OpenRows as system_rows;
 use crate::size_of;
 use noise::noise_set::NoiseSet;
 use operators::term_set::TermSet;
@@ -73,4 +76,27 @@ pub(crate) fn fits(masks: &[u64; 64], n: usize, spins: u32) -> bool
     }
     let size = size_of(spins);
     all % MASK_SIZE < size && all / MASK_SIZE < size
+}
+
+// The same of both sides of n noise terms.
+pub(crate) fn pairs_fit(lefts: &[u64; 64], rights: &[u64; 64], n: usize, spins: u32) -> bool
+    requires { ⌜ (n ≤ 64) × (spins ≤ 31) ⌝ }
+    ensures { λ r. ⌜ (r ≡ true → (w : List NoiseTerm) → each (λ p qs. valid p) (noise_rows.itemsOf w) ≡ true → length w ≡ n → take n (now (lefts .entry)) ≡ map (λ t. masksOf (t .left)) w → take n (now (rights .entry)) ≡ map (λ t. masksOf (t .right)) w → outside spins (noise_rows.itemsOf w) ≡ []) ⌝ }
+{
+    fits(lefts, n, spins) && fits(rights, n, spins)
+}
+
+// The same of m terms of a Hamiltonian and n noise terms.
+pub(crate) fn system_fits(
+    masks: &[u64; 64],
+    m: usize,
+    lefts: &[u64; 64],
+    rights: &[u64; 64],
+    n: usize,
+    spins: u32,
+) -> bool
+    requires { ⌜ (m ≤ 64) × (n ≤ 64) × (spins ≤ 31) ⌝ }
+    ensures { λ r. ⌜ (r ≡ true → (h : List Term) (w : List NoiseTerm) → each (λ p qs. valid p) (itemsOf h) ≡ true → each (λ p qs. valid p) (noise_rows.itemsOf w) ≡ true → length h ≡ m → take m (now (masks .entry)) ≡ map (λ t. masksOf (t .items)) h → length w ≡ n → take n (now (lefts .entry)) ≡ map (λ t. masksOf (t .left)) w → take n (now (rights .entry)) ≡ map (λ t. masksOf (t .right)) w → outside spins (system_rows.itemsOf h w) ≡ []) ⌝ }
+{
+    fits(masks, m, spins) && pairs_fit(lefts, rights, n, spins)
 }

@@ -1,14 +1,14 @@
 -- What `deliver_both` answers of the contributions of both parts.
+use native.Mathlib.Omega.{arith}
 use borrow.Author.Needs.{needs}
-use Rattle.operators.specs.Complexes.{heldBy}
 use Rattle.open_system.specs.OperatorRows.{itemsOf}
 use Rattle.open_system.proofs.AcceptedLaws.{accepted-left, accepted-right}
 use Rattle.open_system.proofs.SystemRowLaws.{delivered-both}
 use Rattle.open_system.proofs.delivered.Statement.{statement}
 use Rattle.open_system.proofs.delivered.Tie as tie
 
-write-commutator-requires : tie.Need-write-commutator-requires
-write-commutator-requires c κs = search needs
+write-hamiltonian-requires : tie.Need-write-hamiltonian-requires
+write-hamiltonian-requires c κs = search needs
 
 write-noise-requires : tie.Need-write-noise-requires
 write-noise-requires c κs = search needs
@@ -26,21 +26,21 @@ same-length-3 : tie.Need-same-length-3
 same-length-3 c = search needs
 
 returns : tie.Need-returns
-returns c =
+returns c t w given pairs ok =
     let d = c .before .before .before .before .before .before in
     let n = d .before .before .before .before .before .before .before .before .before .before in
     let h = n .before .before .before .before in
     let s = h .before .before .before .before .before .before .before in
-    delivered-both (h .write-commutator .ensures .0) (n .write-noise .ensures .0)
-    (h .write-commutator .ensures .1 (record { columns = search needs; reals = search needs; imaginaries = search needs }) (accepted-left _ _ (s .pre)))
-    (n .write-noise .ensures .1 (record { columns = search needs; reals = search needs; imaginaries = search needs }) (accepted-right (itemsOf (heldBy (s .args .h))) _ (s .pre)))
+    delivered-both (omega (arith, h .write-hamiltonian .ensures .0, s .pre .0)) (omega (arith, n .write-noise .ensures .0, s .pre .1))
+    (h .write-hamiltonian .ensures .1 (record { columns = search needs; reals = search needs; imaginaries = search needs }) t given (accepted-left _ _ ok))
+    (n .write-noise .ensures .1 (record { columns = search needs; reals = search needs; imaginaries = search needs }) w pairs (accepted-right (itemsOf t) _ ok))
     (d .deliver-both .ensures)
 
 pub delivered-spec : {M : Type 1} → statement M
 delivered-spec =
     tie.close
     (tie.spec
-    write-commutator-requires
+    write-hamiltonian-requires
     write-noise-requires
     deliver-both-requires
     same-length

@@ -1,38 +1,99 @@
--- Number 0 for each part; the row of a valid system is that of `row_of`.
-use mathlib.Core.Path.{sym, _∙_, subst}
+-- Number 0 for each part, then each refusal by the tests on the way; what judging hands out has the system's terms, and where it fits the spins, or
+-- no site is found, it is delivered.
+use mathlib.Core.Path.{_≡_, refl, sym, ap, _∙_}
+use mathlib.Core.Logic.{⊎-elim}
+use mathlib.Core.List.{[]}
+use native.Mathlib.Omega.{arith}
 use borrow.Author.Tests.{not-true, not-false}
 use borrow.Author.Needs.{needs}
+use Rattle.refusal.specs.Refusals.{carried}
+use Rattle.rows.specs.Calls.{outside}
+use Rattle.rows.proofs.CallLaws.{call-spins, call-range, call-outside, call-row, pairs-size}
 use Rattle.operators.proofs.SetLaws.{held-from}
-use Rattle.open_system.specs.OperatorRows.{itemsOf}
-use Rattle.open_system.proofs.AcceptedLaws.{AllValid, all-both, hamiltonian-valid, noise-valid}
+use Rattle.noise.specs.Pairs.{heldBy}
+use Rattle.open_system.specs.OperatorRows.{hamiltonianTerms}
+use Rattle.open_system.specs.OpenRows.{itemsOf, systemRowOf}
+use Rattle.open_system.proofs.AcceptedLaws.{accepted, all-both, hamiltonian-valid, noise-valid}
+use Rattle.open_system.proofs.HandedLaws.{real-judged, real-few, real-given, pairs-judged, pairs-few, pairs-given}
 use Rattle.open_system.proofs.SystemRowLaws.{system-malformed, noise-malformed, system-valid}
 use Rattle.open_system.proofs.row.Statement.{statement}
 use Rattle.open_system.proofs.row.Tie as tie
 
-is-valid-requires : tie.Need-is-valid-requires
-is-valid-requires c κs = search needs
+masked-requires : tie.Need-masked-requires
+masked-requires c κs = search needs
 
 returns : tie.Need-returns
-returns c = system-malformed (c .before .before .before .before .before .before .before .args .s) _ _ (sym (c .before .is-valid .ensures) ∙ not-true _ (c .if1 .taken))
+returns c = system-malformed (c .before .before .before .before .before .before .args .s) _ _ (sym (real-judged _ (c .before .before .masked .ensures)) ∙ not-true _ (c .if1 .taken))
 
-is-valid-requires-2 : tie.Need-is-valid-requires-2
-is-valid-requires-2 c κs = search needs
+masked-requires-2 : tie.Need-masked-requires-2
+masked-requires-2 c κs = search needs
 
 returns-2 : tie.Need-returns-2
 returns-2 c =
-    let e = c .before .before in
-    noise-malformed (e .before .before .before .before .before .before .before .args .s) _ _ (sym (e .before .is-valid .ensures) ∙ not-false _ (e .if1 .left)) (sym (c .before .is-valid2 .ensures) ∙ not-true _ (c .if2 .taken))
+    let v = sym (real-judged _ (c .before .before .before .before .before .masked .ensures)) ∙ not-false _ (c .before .before .before .if1 .left) in
+    noise-malformed (c .before .before .before .before .before .before .before .before .before .args .s) _ _ v (sym (pairs-judged _ (c .before .before .masked2 .ensures)) ∙ not-true _ (c .if2 .taken))
+
+returns-3 : tie.Need-returns-3
+unfolding systemRowOf
+returns-3 c =
+    let e = c .before in
+    let v = sym (real-judged _ (e .before .before .before .before .before .masked .ensures)) ∙ not-false _ (e .before .before .before .if1 .left) in
+    let w = sym (pairs-judged _ (e .before .before .masked2 .ensures)) ∙ not-false _ (e .if2 .left) in
+    system-valid (e .before .before .before .before .before .before .before .before .before .args .s) _ _ v w _ refl (call-spins _ _ _ _ _ (c .if3 .taken))
+
+add-size-of : tie.Need-add-size-of
+add-size-of c = search needs
+
+size-of-requires : tie.Need-size-of-requires
+size-of-requires c κs = search needs
+
+returns-4 : tie.Need-returns-4
+unfolding systemRowOf
+returns-4 c =
+    let f = c .before .before in
+    let e = f .before in
+    let v = sym (real-judged _ (e .before .before .before .before .before .masked .ensures)) ∙ not-false _ (e .before .before .before .if1 .left) in
+    let w = sym (pairs-judged _ (e .before .before .masked2 .ensures)) ∙ not-false _ (e .if2 .left) in
+    system-valid (e .before .before .before .before .before .before .before .before .before .args .s) _ _ v w _ refl (call-range _ _ _ _ _ (f .if3 .left) (pairs-size _ (c .before .size-of .ensures (omega (arith, f .if3 .left)))) (c .if4 .taken))
+
+system-fits-requires : tie.Need-system-fits-requires
+system-fits-requires c κs =
+    let f = c .before .before .before .before .before .before .before .before in
+    let e = f .before in
+    let h = e .before .before .before .before .before .masked .ensures in
+    let n = e .before .before .masked2 .ensures in
+    (real-few _ h (sym (real-judged _ h) ∙ not-false _ (e .before .before .before .if1 .left)), pairs-few _ n (sym (pairs-judged _ n) ∙ not-false _ (e .if2 .left)), f .if3 .left)
 
 complex-terms-requires : tie.Need-complex-terms-requires
 complex-terms-requires c κs = search needs
 
-row-of-requires : tie.Need-row-of-requires
-row-of-requires c κs =
-    let made = c .before .before .before in
-    let f = made .before in
-    let e = f .before .before in
-    all-both _ _ (subst (λ l. AllValid (itemsOf l)) (sym (held-from _ _ (made .complex-terms .ensures))) (hamiltonian-valid _ (sym (e .before .is-valid .ensures) ∙ not-false _ (e .if1 .left))))
-    (noise-valid _ (sym (f .before .is-valid2 .ensures) ∙ not-false _ (f .if2 .left)))
+outside-site-requires : tie.Need-outside-site-requires
+outside-site-requires c κs = search needs
+
+enum-known-site : tie.Need-enum-known-site
+enum-known-site c = search needs
+
+returns-5 : tie.Need-returns-5
+unfolding systemRowOf
+returns-5 c =
+    let g = c .before .before .before .before .before .before .before .before .before .before .before .before .before in
+    let f = g .before .before in
+    let e = f .before in
+    let v = sym (real-judged _ (e .before .before .before .before .before .masked .ensures)) ∙ not-false _ (e .before .before .before .if1 .left) in
+    let w = sym (pairs-judged _ (e .before .before .masked2 .ensures)) ∙ not-false _ (e .if2 .left) in
+    let site = ap carried (sym (c .before .site .given .1)) ∙ c .before .before .before .outside-site .ensures in
+    system-valid (e .before .before .before .before .before .before .before .before .before .args .s) _ _ v w _ (held-from _ _ (c .before .before .before .before .complex-terms .ensures))
+    (call-outside _ _ _ _ _ (f .if3 .left) (pairs-size _ (g .before .size-of .ensures (omega (arith, f .if3 .left)))) (g .if4 .left) site)
+
+enum-told : tie.Need-enum-told
+enum-told c = search needs
+
+delivered-requires : tie.Need-delivered-requires
+delivered-requires c κs =
+    let e = c .before .before .before .before .before .before .before .before .before .before .before .before .before .before .before .before .before .before .before .before .before .before .before in
+    let h = e .before .before .before .before .before .masked .ensures in
+    let n = e .before .before .masked2 .ensures in
+    (real-few _ h (sym (real-judged _ h) ∙ not-false _ (e .before .before .before .if1 .left)), pairs-few _ n (sym (pairs-judged _ n) ∙ not-false _ (e .if2 .left)))
 
 same-length : tie.Need-same-length
 same-length c = search needs
@@ -43,24 +104,53 @@ same-length-2 c = search needs
 same-length-3 : tie.Need-same-length-3
 same-length-3 c = search needs
 
-returns-3 : tie.Need-returns-3
-returns-3 c =
-    let made = c .before .before .before .before .before .before .before .before .before .before in
-    let f = made .before in
-    let e = f .before .before in
-    system-valid (e .before .before .before .before .before .before .before .args .s) _ _ (sym (e .before .is-valid .ensures) ∙ not-false _ (e .if1 .left)) (sym (f .before .is-valid2 .ensures) ∙ not-false _ (f .if2 .left)) _ (held-from _ _ (made .complex-terms .ensures)) (c .before .before .before .before .before .before .row-of .ensures)
+returns-6 : tie.Need-returns-6
+unfolding systemRowOf
+returns-6 c =
+    let g = c .before .before .before .before .before .before .before .before .before .before .before .before .before .before .before .before .before .before .before .before .before .before .before .before .before .before .before in
+    let f = g .before .before in
+    let e = f .before in
+    let h = e .before .before .before .before .before .masked .ensures in
+    let n = e .before .before .masked2 .ensures in
+    let v = sym (real-judged _ h) ∙ not-false _ (e .before .before .before .if1 .left) in
+    let w = sym (pairs-judged _ n) ∙ not-false _ (e .if2 .left) in
+    let a = e .before .before .before .before .before .before .before .before .before .args in
+    let t = hamiltonianTerms (a .s .system) in
+    let l = heldBy (a .s .noise .set) in
+    let p = real-given _ h v in
+    let q = pairs-given _ n w in
+    let few = f .if3 .left in
+    let size = pairs-size _ (g .before .size-of .ensures (omega (arith, few))) in
+    let none : [] ≡ outside (a .spins) (itemsOf t l) =
+    ⊎-elim
+    (λ z. ap carried (sym (z .4 .given .1)) ∙ z .2 .ensures ∙ ap (λ u. outside (a .spins) (itemsOf u l)) (held-from _ _ (z .1 .ensures)))
+    (λ z. sym (c .before .before .before .before .before .before .before .before .before .before .before .before .before .before .before .before .before .before .before .before .system-fits .ensures (not-false _ (z .left)) t l (hamiltonian-valid _ v) (noise-valid _ w) (p .count) (p .products) (q .count) (q .left-products) (q .right-products)))
+    (c .before .before .before .before .before .before .before .before .before .before .before .before .before .before .before .before .before .before .before .if5 .came)
+    in
+    system-valid (a .s) _ _ v w _ refl
+    (call-row _ _ _ _ _ few size (g .if4 .left) none
+    (c .before .before .before .before .before .before .delivered .ensures t l p q (accepted _ (all-both _ _ (hamiltonian-valid _ v) (noise-valid _ w)) few size (g .if4 .left) none)))
 
 pub row-spec : {M : Type 1} → statement M
 row-spec =
     tie.close
     (tie.spec
-    is-valid-requires
+    masked-requires
     returns
-    is-valid-requires-2
+    masked-requires-2
     returns-2
+    returns-3
+    add-size-of
+    size-of-requires
+    returns-4
+    system-fits-requires
     complex-terms-requires
-    row-of-requires
+    outside-site-requires
+    enum-known-site
+    returns-5
+    enum-told
+    delivered-requires
     same-length
     same-length-2
     same-length-3
-    returns-3)
+    returns-6)

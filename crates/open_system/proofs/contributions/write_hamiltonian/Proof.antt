@@ -1,7 +1,7 @@
 -- The loop's invariant: the first 2i entries are the contributions of the terms before the place i, of every list of terms that the arrays have
 -- (`WritingEach`).
 use Prim.Native.Nat.{_-_, _*_, _^_, _<_}
-use mathlib.Core.Path.{_≡_, refl}
+use mathlib.Core.Path.{refl}
 use lib.ListN.{length}
 use native.Mathlib.Omega.{arith}
 use borrow.Author.Needs.{needs}

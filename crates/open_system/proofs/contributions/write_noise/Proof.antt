@@ -1,75 +1,83 @@
--- The loop's invariant: the first 3i entries are the contributions of the terms before the place i (`Writing`).
-use Prim.Native.Nat.{_-_, _*_, _^_}
-use mathlib.Core.Path.{_≡_, refl}
-use lib.ListN.{length, length-map, take}
+-- The loop's invariant: the first 3i entries are the contributions of the terms before the place i, of every list of terms that the arrays have
+-- (`WritingEach`).
+use Prim.Native.Nat.{_-_, _*_, _^_, _<_}
+use mathlib.Core.Path.{refl}
+use lib.ListN.{length}
 use native.Mathlib.Omega.{arith}
 use borrow.Author.Needs.{needs}
 use Rattle.rows.specs.Buffers.{Long}
+use Rattle.noise.specs.Pairs.{blank}
 use Rattle.open_system.specs.Accepted.{Accepted}
+use Rattle.open_system.specs.Masked.{MaskedPairs}
 use Rattle.open_system.specs.NoiseRows.{itemsOf, noisePart, noiseContributions}
-use Rattle.open_system.proofs.AcceptedLaws.{sides-accepted}
-use Rattle.open_system.proofs.WritingLaws.{Writing, writing-none, writing-more, writing-done}
+use Rattle.open_system.proofs.MaskedLaws.{left-masks, right-masks, pair-coefficient, sides-accepted-at, WritingEach, each-none, each-more, each-done}
 use Rattle.open_system.proofs.contributions.write_noise.Statement.{statement}
 use Rattle.open_system.proofs.contributions.write_noise.Tie as tie
 
 abbrev Inv-loop : tie.InvT-loop
-Inv-loop spins row columns₀ re₀ im₀ s n i₀ columns re im i =
-    Writing (Long columns₀ re₀ im₀ × Accepted spins (2 ^ spins * 2 ^ spins) row (itemsOf (take (s .count) (s .terms)))) (noisePart spins row) (s .count) n (s .terms) columns re im (3 * i) i
+Inv-loop lefts rights res ims n spins row columns₀ re₀ im₀ i₀ columns re im i =
+    WritingEach (λ l. Long columns₀ re₀ im₀ × MaskedPairs lefts rights res ims n l × Accepted spins (2 ^ spins * 2 ^ spins) row (itemsOf l)) (noisePart spins row) n columns re im (3 * i) i
 
 abbrev μ-loop : tie.MeasureT-loop
-μ-loop spins row columns₀ re₀ im₀ s n i₀ columns re im i = n - i
-
-held-count-requires : tie.Need-held-count-requires Inv-loop μ-loop
-held-count-requires c κs = search needs
+μ-loop lefts rights res ims n spins row columns₀ re₀ im₀ i₀ columns re im i = n - i
 
 loop-holds : tie.Need-loop-holds Inv-loop μ-loop
-loop-holds c =
-    let whole : length (c .before .args .t1 .terms) ≡ 64 = simp length-map at (c .before .good .0 .1 .1 .1 .0 .1 .0 .1) in
-    writing-none whole (c .held-count .ensures) (λ ok. ok .0)
+loop-holds c = each-none (λ l ok. ok .1 .count) (λ l ok. ok .0)
 
-mul-t : tie.Need-mul-t Inv-loop μ-loop
-mul-t c = omega arith
+mul-t14 : tie.Need-mul-t14 Inv-loop μ-loop
+mul-t14 c = omega (arith, c .before .before .pre)
 
-element-copy-out-t : tie.Need-element-copy-out-t Inv-loop μ-loop
-element-copy-out-t c = omega arith
+element-copy-out-t17 : tie.Need-element-copy-out-t17 Inv-loop μ-loop
+element-copy-out-t17 c = omega (arith, c .before .before .pre)
 
-masks-requires : tie.Need-masks-requires Inv-loop μ-loop
-masks-requires c κs = search needs
+mul-t18 : tie.Need-mul-t18 Inv-loop μ-loop
+mul-t18 c = omega (arith, c .before .before .before .pre)
 
-masks-requires-2 : tie.Need-masks-requires-2 Inv-loop μ-loop
-masks-requires-2 c κs = search needs
+element-copy-out-t21 : tie.Need-element-copy-out-t21 Inv-loop μ-loop
+element-copy-out-t21 c = omega (arith, c .before .before .before .pre)
 
 mul-put-noise : tie.Need-mul-put-noise Inv-loop μ-loop
-mul-put-noise c = omega arith
+mul-put-noise c = omega (arith, c .before .before .before .before .pre)
+
+element-copy-out-put-noise : tie.Need-element-copy-out-put-noise Inv-loop μ-loop
+element-copy-out-put-noise c = omega (arith, c .before .before .before .before .pre)
+
+mul-put-noise-2 : tie.Need-mul-put-noise-2 Inv-loop μ-loop
+mul-put-noise-2 c = omega (arith, c .before .before .before .before .before .pre)
+
+element-copy-out-put-noise-2 : tie.Need-element-copy-out-put-noise-2 Inv-loop μ-loop
+element-copy-out-put-noise-2 c = omega (arith, c .before .before .before .before .before .pre)
+
+mul-put-noise-3 : tie.Need-mul-put-noise-3 Inv-loop μ-loop
+mul-put-noise-3 c = omega (arith, c .before .before .before .before .before .before .pre)
 
 put-noise-requires : tie.Need-put-noise-requires Inv-loop μ-loop
-put-noise-requires c κs =
-    let l = c .before .before .before .before .before .before .before in
-    omega (arith, l .loop .inv .few, c .before .before .before .before .before .before .loop-test .taken)
+put-noise-requires c κs = omega (arith, c .before .before .before .before .before .before .before .loop-test .taken, c .before .before .before .before .before .before .before .before .before .pre)
 
 add-i : tie.Need-add-i Inv-loop μ-loop
-add-i c = omega arith
+add-i c = omega (arith, c .before .before .before .before .before .before .before .before .loop-test .taken, c .before .before .before .before .before .before .before .before .before .before .pre)
 
 loop-less : tie.Need-loop-less Inv-loop μ-loop
-loop-less c = omega arith
+loop-less c = search needs
 
 loop-again : tie.Need-loop-again Inv-loop μ-loop
 loop-again c =
-    let turn = c .before .before .before .before .before .before .before in
+    let turn = c .before .before .before .before .before .before .before .before in
     let l = turn .before in
-    let a = l .before .before .args in
-    writing-more (l .loop .inv) _ (turn .loop-test .taken) (omega arith)
-    (λ ok. c .put-noise .ensures (l .loop .inv .long ok) .0 _ (c .before .before .before .before .before .masks .ensures) (c .before .before .before .before .masks2 .ensures) refl (sides-accepted (a .t1 .terms) (a .t1 .count) _ (l .loop .inv .whole) (l .loop .inv .few) (turn .loop-test .taken) (ok .1)))
-    (λ ok. c .put-noise .ensures (l .loop .inv .long ok) .1)
+    each-more (l .loop .inv) blank (turn .loop-test .taken) (omega arith)
+    (λ t ok.
+    let i = l .loop .i in
+    let h = turn .loop-test .taken in
+    let long : i < length t = omega (arith, ok .1 .count) in
+    let put = c .put-noise .ensures (l .loop .inv .long t ok) in
+    (put .0 _ (left-masks (ok .1) i h blank) (right-masks (ok .1) i h blank) (pair-coefficient (ok .1) i h blank _ _) (sides-accepted-at t i blank long (ok .2)), put .1))
 
 mul-result : tie.Need-mul-result Inv-loop μ-loop
-mul-result c = omega arith
+mul-result c = omega (arith, c .before .before .pre)
 
 returns : tie.Need-returns Inv-loop μ-loop
 unfolding noiseContributions
-returns c =
-    let l = c .before in
-    (omega (arith, l .loop .inv .few), λ long ok. writing-done (l .loop .inv) (c .loop-test .left) (omega (arith, l .loop .inv .within)) (long, ok))
+returns c = let l = c .before in (refl, λ long t m ok. each-done (l .loop .inv) (c .loop-test .left) (omega (arith, l .loop .inv .within)) t (long, m, ok))
 
 pub write-noise-spec : {M : Type 1} → statement M
 write-noise-spec =
@@ -77,13 +85,16 @@ write-noise-spec =
     (tie.spec
     Inv-loop
     μ-loop
-    held-count-requires
     loop-holds
-    mul-t
-    element-copy-out-t
-    masks-requires
-    masks-requires-2
+    mul-t14
+    element-copy-out-t17
+    mul-t18
+    element-copy-out-t21
     mul-put-noise
+    element-copy-out-put-noise
+    mul-put-noise-2
+    element-copy-out-put-noise-2
+    mul-put-noise-3
     put-noise-requires
     add-i
     loop-less

@@ -22,11 +22,11 @@ same-length-3 : tie.Need-same-length-3
 same-length-3 c = search needs
 
 returns : tie.Need-returns
-returns c =
+returns c w given ok =
     let d = c .before .before .before .before .before .before in
-    let w = d .before .before .before .before .before .before .before in
-    let s = w .before .before .before .before .before .before .before in
-    delivered true (omega (arith, w .write-noise .ensures .0)) (w .write-noise .ensures .1 (record { columns = search needs; reals = search needs; imaginaries = search needs }) (s .pre)) (d .deliver .ensures)
+    let n = d .before .before .before .before .before .before .before in
+    let s = n .before .before .before .before .before .before .before in
+    delivered true (omega (arith, n .write-noise .ensures .0, s .pre)) (n .write-noise .ensures .1 (record { columns = search needs; reals = search needs; imaginaries = search needs }) w given ok) (d .deliver .ensures)
 
 pub deliver-noise-spec : {M : Type 1} → statement M
 deliver-noise-spec =

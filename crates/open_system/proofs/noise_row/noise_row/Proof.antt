@@ -1,27 +1,32 @@
--- Each refusal by the tests on the way; terms that fit are delivered.
-use mathlib.Core.Path.{refl, sym, ap, _∙_}
+-- Each refusal by the tests on the way; what judging hands out has the set's terms, and where it fits the spins, or no site is found, it is delivered.
+use mathlib.Core.Path.{_≡_, refl, sym, ap, _∙_}
+use mathlib.Core.Logic.{⊎-elim}
+use mathlib.Core.List.{[]}
 use native.Mathlib.Omega.{arith}
 use borrow.Author.Tests.{not-true, not-false}
 use borrow.Author.Needs.{needs}
 use Rattle.refusal.specs.Refusals.{carried}
+use Rattle.rows.specs.Calls.{outside}
 use Rattle.rows.proofs.CallLaws.{call-malformed, call-valid, call-spins, call-range, call-outside, call-row, pairs-size}
-use Rattle.open_system.specs.NoiseRows.{noiseRow}
+use Rattle.noise.specs.Pairs.{heldBy}
+use Rattle.open_system.specs.NoiseRows.{itemsOf, noiseRow}
 use Rattle.open_system.proofs.AcceptedLaws.{accepted, noise-valid}
+use Rattle.open_system.proofs.HandedLaws.{pairs-judged, pairs-few, pairs-given}
 use Rattle.open_system.proofs.noise_row.noise_row.Statement.{statement}
 use Rattle.open_system.proofs.noise_row.noise_row.Tie as tie
 
-is-valid-requires : tie.Need-is-valid-requires
-is-valid-requires c κs = search needs
+masked-requires : tie.Need-masked-requires
+masked-requires c κs = search needs
 
 returns : tie.Need-returns
 unfolding noiseRow
-returns c = call-malformed _ _ _ _ _ (sym (c .before .is-valid .ensures) ∙ not-true _ (c .if1 .taken))
+returns c = call-malformed _ _ _ _ _ (sym (pairs-judged _ (c .before .before .masked .ensures)) ∙ not-true _ (c .if1 .taken))
 
 returns-2 : tie.Need-returns-2
 unfolding noiseRow
 returns-2 c =
-    let e = c .before in
-    call-valid _ (sym (e .before .is-valid .ensures) ∙ not-false _ (e .if1 .left)) refl (call-spins _ _ _ _ _ (c .if2 .taken))
+    let v = sym (pairs-judged _ (c .before .before .before .masked .ensures)) ∙ not-false _ (c .before .if1 .left) in
+    call-valid _ v refl (call-spins _ _ _ _ _ (c .if2 .taken))
 
 add-size-of : tie.Need-add-size-of
 add-size-of c = search needs
@@ -33,9 +38,14 @@ returns-3 : tie.Need-returns-3
 unfolding noiseRow
 returns-3 c =
     let f = c .before .before in
-    let e = f .before in
-    let few = f .if2 .left in
-    call-valid _ (sym (e .before .is-valid .ensures) ∙ not-false _ (e .if1 .left)) refl (call-range _ _ _ _ _ few (pairs-size _ (c .before .size-of .ensures (omega arith))) (c .if3 .taken))
+    let v = sym (pairs-judged _ (f .before .before .before .masked .ensures)) ∙ not-false _ (f .before .if1 .left) in
+    call-valid _ v refl (call-range _ _ _ _ _ (f .if2 .left) (pairs-size _ (c .before .size-of .ensures (omega (arith, f .if2 .left)))) (c .if3 .taken))
+
+pairs-fit-requires : tie.Need-pairs-fit-requires
+pairs-fit-requires c κs =
+    let f = c .before .before .before .before .before .before in
+    let m = f .before .before .before .masked .ensures in
+    (pairs-few _ m (sym (pairs-judged _ m) ∙ not-false _ (f .before .if1 .left)), f .if2 .left)
 
 of-noise-requires : tie.Need-of-noise-requires
 of-noise-requires c κs = search needs
@@ -43,27 +53,23 @@ of-noise-requires c κs = search needs
 enum-known-site : tie.Need-enum-known-site
 enum-known-site c = search needs
 
+returns-4 : tie.Need-returns-4
+unfolding noiseRow
+returns-4 c =
+    let g = c .before .before .before .before .before .before .before .before .before .before in
+    let f = g .before .before in
+    let v = sym (pairs-judged _ (f .before .before .before .masked .ensures)) ∙ not-false _ (f .before .if1 .left) in
+    let site = ap carried (sym (c .before .site .given .1)) ∙ c .before .before .before .of-noise .ensures in
+    call-valid _ v refl (call-outside _ _ _ _ _ (f .if2 .left) (pairs-size _ (g .before .size-of .ensures (omega (arith, f .if2 .left)))) (g .if3 .left) site)
+
 enum-told : tie.Need-enum-told
 enum-told c = search needs
 
 deliver-noise-requires : tie.Need-deliver-noise-requires
 deliver-noise-requires c κs =
-    let g = c .before .before .before .before .before .before in
-    let f = g .before .before in
-    let e = f .before in
-    let few = f .if2 .left in
-    let none = ap carried (sym (c .before .before .before .enum-told .given .1)) ∙ c .before .before .before .before .before .of-noise .ensures in
-    accepted _ (noise-valid _ (sym (e .before .is-valid .ensures) ∙ not-false _ (e .if1 .left))) few (pairs-size _ (g .before .size-of .ensures (omega arith))) (g .if3 .left) none
-
-returns-4 : tie.Need-returns-4
-unfolding noiseRow
-returns-4 c =
-    let g = c .before .before .before .before in
-    let f = g .before .before in
-    let e = f .before in
-    let few = f .if2 .left in
-    let site = ap carried (sym (c .before .site .given .1)) ∙ c .before .before .before .of-noise .ensures in
-    call-valid _ (sym (e .before .is-valid .ensures) ∙ not-false _ (e .if1 .left)) refl (call-outside _ _ _ _ _ few (pairs-size _ (g .before .size-of .ensures (omega arith))) (g .if3 .left) site)
+    let f = c .before .before .before .before .before .before .before .before .before .before .before .before .before .before .before .before .before in
+    let m = f .before .before .before .masked .ensures in
+    pairs-few _ m (sym (pairs-judged _ m) ∙ not-false _ (f .before .if1 .left))
 
 same-length : tie.Need-same-length
 same-length c = search needs
@@ -77,28 +83,39 @@ same-length-3 c = search needs
 returns-5 : tie.Need-returns-5
 unfolding noiseRow
 returns-5 c =
-    let g = c .before .before .before .before .before .before .before .before .before .before .before .before .before in
+    let g = c .before .before .before .before .before .before .before .before .before .before .before .before .before .before .before .before .before .before .before .before .before .before in
     let f = g .before .before in
-    let e = f .before in
+    let m = f .before .before .before .masked .ensures in
+    let v = sym (pairs-judged _ m) ∙ not-false _ (f .before .if1 .left) in
+    let a = f .before .before .before .before .before .before .before .args in
+    let l = heldBy (a .s) in
+    let p = pairs-given _ m v in
     let few = f .if2 .left in
-    let none = ap carried (sym (c .before .before .before .before .before .before .before .before .before .before .enum-told .given .1)) ∙ c .before .before .before .before .before .before .before .before .before .before .before .before .of-noise .ensures in
-    call-valid _ (sym (e .before .is-valid .ensures) ∙ not-false _ (e .if1 .left)) refl (call-row _ _ _ _ _ few (pairs-size _ (g .before .size-of .ensures (omega arith))) (g .if3 .left) none (c .before .before .before .before .before .before .deliver-noise .ensures))
+    let size = pairs-size _ (g .before .size-of .ensures (omega (arith, few))) in
+    let none : [] ≡ outside (a .spins) (itemsOf l) =
+    ⊎-elim
+    (λ w. ap carried (sym (w .3 .given .1)) ∙ w .1 .ensures)
+    (λ w. sym (c .before .before .before .before .before .before .before .before .before .before .before .before .before .before .before .before .before .pairs-fit .ensures (not-false _ (w .left)) l (noise-valid _ v) (p .count) (p .left-products) (p .right-products)))
+    (c .before .before .before .before .before .before .before .before .before .before .before .before .before .before .before .before .if4 .came)
+    in
+    call-valid _ v refl (call-row _ _ _ _ _ few size (g .if3 .left) none (c .before .before .before .before .before .before .deliver-noise .ensures l p (accepted _ (noise-valid _ v) few size (g .if3 .left) none)))
 
 pub noise-row-spec : {M : Type 1} → statement M
 noise-row-spec =
     tie.close
     (tie.spec
-    is-valid-requires
+    masked-requires
     returns
     returns-2
     add-size-of
     size-of-requires
     returns-3
+    pairs-fit-requires
     of-noise-requires
     enum-known-site
+    returns-4
     enum-told
     deliver-noise-requires
-    returns-4
     same-length
     same-length-2
     same-length-3
