@@ -1,7 +1,7 @@
 -- Which columns a row delivers, over any numbers: those with a contribution, and where zero sums are left out those whose sum is not zero.
 -- With `row-columns`, `row-numbers` and `placeAll-columns` of the crate rows these are all four kinds of row.
 -- Assumes nothing.
-use mathlib.Core.Path.{_≡_, refl, sym, ap, _∙_}
+use mathlib.Core.Path.{_≡_, refl, ap, _∙_}
 use mathlib.Core.Bool.{Bool, true, false, cond}
 use mathlib.Core.List.{List, [], _∷_}
 use Prim.Native.Nat.{ℕ}

@@ -2,11 +2,10 @@
 -- Assumes nothing.
 use Prim.Native.Nat.{ℕ, _+_, _≤_, _<_, min}
 use native.Mathlib.Omega.{arith}
-use mathlib.Core.Path.{_≡_, ap, _∙_}
+use mathlib.Core.Path.{_≡_}
 use mathlib.Core.Bool.{Bool, true, false, not}
 use mathlib.Core.List.{List}
 use lib.ListN.{length, take, drop, getD, length-take}
-use lib.Seq.{getD-take}
 use Rattle.terms.specs.Keyed.{each}
 use Rattle.terms.specs.Setting.{mostTerms}
 use Rattle.terms.proofs.PlaceLaws.{Judged, judged-none, judged-more, judged-failed, judged-done, term-read}

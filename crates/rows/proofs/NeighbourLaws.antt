@@ -10,7 +10,7 @@ use lib.ListN.{length}
 use borrow.Author.Tests.{lt-ltb, le-ltb, eq-eqb, ne-eqb, eqb-true, eqb-false}
 use Rattle.rows.specs.Placing.{placed, placeAll, rowOf}
 use Rattle.rows.specs.Sorting.{Rising, inserted, sortedOnto, sorted, merged, addedFrom, neighboursAdded}
-use Rattle.rows.proofs.SortLaws.{by-order, inserted-here, inserted-past, inserted-none, rising-inserted, length-sorted, sorted-rising, merged-sorted}
+use Rattle.rows.proofs.SortLaws.{by-order, inserted-here, inserted-past, inserted-none, rising-inserted, sorted-rising, merged-sorted}
 
 -- the column of an entry
 abbrev pub columnOf : {N : Type 0} → ℕ × N → ℕ
@@ -135,10 +135,6 @@ module _ {N : Type 0} (sum : N → N → N) where
   unfolding neighboursAdded
   length-added [] = omega arith
   length-added (x ∷ l) = length-from x l
-
-  -- no longer than the contributions
-  pub length-row : (l : List (ℕ × N)) → length (rowOf sum l) ≤ length l
-  length-row l = rw (← added-sorted l) (omega (arith, length-added (sorted columnOf l), length-sorted columnOf l))
 
   -- ---- a row is strictly ascending
 

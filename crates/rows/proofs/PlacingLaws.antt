@@ -219,11 +219,6 @@ module _ {N : Type 0} (sum : N → N → N) where
   unfolding rowOf
   row-append xs ys = placeAll-append xs ys []
 
-  -- one contribution more, as a loop takes them
-  pub row-more : (es : List (ℕ × N)) (e : ℕ × N) → rowOf sum (es ++ (e ∷ [])) ≡ placed sum e (rowOf sum es)
-  unfolding placeAll
-  row-more es e = row-append es (e ∷ [])
-
 module _ {N : Type 0} where
   -- every column of two lists is below d
   pub below-append : (d : ℕ) (xs ys : List (ℕ × N)) → Below d xs → Below d ys → Below d (xs ++ ys)

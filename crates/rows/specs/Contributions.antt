@@ -1,6 +1,6 @@
 -- What each term contributes to a row: a column and a number, in document 01's order. In each row a product has one nonzero column.
 use Prim.Native.Nat.{ℕ, _+_, _*_, _%_, _^_}
-use mathlib.Core.List.{List, [], _∷_, _++_}
+use mathlib.Core.List.{List, [], _∷_}
 use Rattle.letters.specs.Matrices.{Letters, pauli, decoherence}
 use Rattle.letters.specs.Rows.{columnOf, rowPower}
 use Rattle.rows.specs.Numbers.{Numbers}

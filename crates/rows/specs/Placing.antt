@@ -1,7 +1,7 @@
 -- A row from its contributions, over any numbers: entries (column, number) by ascending column, each the sum of its column's contributions.
 -- Document 01, `Rows`: "A sum starts with its first contribution and adds the rest in term order"; "Entries are delivered by ascending column".
 use Prim.Native.Nat.{ℕ}
-use mathlib.Core.Bool.{Bool, not, cond}
+use mathlib.Core.Bool.{Bool, cond}
 use mathlib.Core.List.{List, [], _∷_}
 use lib.Dec.{ltb, eqb}
 

@@ -1,5 +1,4 @@
 -- The two empty sets.
-use mathlib.Core.Path.{_≡_}
 use borrow.Author.Needs.{needs}
 use Rattle.open_system.proofs.PauliOpenSystem.new.Statement.{statement}
 use Rattle.open_system.proofs.PauliOpenSystem.new.Tie as tie

@@ -1,5 +1,5 @@
 -- Both parts pass, or one does not.
-use mathlib.Core.Path.{sym, ap, _∙_}
+use mathlib.Core.Path.{sym, _∙_}
 use Rattle.complex.specs.Wholes.{bothWhole}
 use borrow.Author.Needs.{needs}
 use Rattle.open_system.proofs.exact.both_whole.Statement.{statement}

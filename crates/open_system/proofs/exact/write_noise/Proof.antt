@@ -1,6 +1,6 @@
 -- The loop's invariant: the entries after the first `from` are the contributions of the terms before the place i (`WritingIn`).
 use Prim.Native.Nat.{_+_, _-_, _*_, _^_}
-use mathlib.Core.Path.{_≡_, refl, ap}
+use mathlib.Core.Path.{_≡_, ap}
 use lib.ListN.{length, length-map, take}
 use native.Mathlib.Omega.{arith}
 use borrow.Author.Needs.{needs}
