@@ -17,7 +17,7 @@ use Rattle.letters.proofs.TestLaws.{eqb-sym}
 use Rattle.letters.proofs.GaussLaws.{𝟙-⊗, ⊗-𝟙, 𝟘-⊗, ⊗-𝟘, 𝟘-⊕, ⊕-𝟘, i^-zero, i^-mod, i^-not-zero}
 use Rattle.letters.proofs.SumLaws.{Π-cong-below, Π-mul, Π-last, Π-i^, conj-Π, total-zero}
 use Rattle.letters.proofs.BitLaws.{bit-lt, binary-lt, binary-bits, one-cell, tensor-product}
-use Rattle.letters.proofs.TableLaws.{asLetter-right, Closed, Converts}
+use Rattle.letters.proofs.TableLaws.{Closed, Converts, times-right, conjugated-right, converted-right}
 
 -- ---- matrices spin by spin
 
@@ -67,39 +67,33 @@ pub multiply-matrix : (M : Letters) → Closed M → (n : ℕ) (f g : ℕ → �
     → Σ (2 ^ n) (λ m. matrix M n f r m ⊗ matrix M n g m c) ≡ i^ (total (λ s. powerOf (times M (f s) (g s))) n % 4) ⊗ matrix M n (λ s. letterOf (times M (f s) (g s))) r c
 multiply-matrix M C n f g hf hg r c =
     matrices
-    ∙ sites-in-letters M n (λ s. product (M (f s)) (M (g s))) (λ s. powerOf (times M (f s) (g s))) (λ s. letterOf (times M (f s) (g s))) (λ s x y h hx hy. one s h x y hx hy) r c
+    ∙ sites-in-letters M n (λ s. product (M (f s)) (M (g s))) (λ s. powerOf (times M (f s) (g s))) (λ s. letterOf (times M (f s) (g s)))
+    (λ s x y h hx hy. times-right M C (f s) (g s) (hf s h) (hg s h) x y hx hy) r c
   where
     matrices : Σ (2 ^ n) (λ m. matrix M n f r m ⊗ matrix M n g m c) ≡ Π n (λ s. product (M (f s)) (M (g s)) (bit s r) (bit s c))
     matrices = unfold matrix in tensor-product n (λ s. M (f s)) (λ s. M (g s)) r c
-
-    one : (s : ℕ) → s < n → (x y : ℕ) → x < 2 → y < 2 → product (M (f s)) (M (g s)) x y ≡ i^ (powerOf (times M (f s) (g s))) ⊗ M (letterOf (times M (f s) (g s))) x y
-    one s h = unfold times in asLetter-right M (product (M (f s)) (M (g s))) (C .times-lt (f s) (g s) (hf s h) (hg s h))
 
 -- the conjugate transpose
 pub conjugate-matrix : (M : Letters) → Closed M → (n : ℕ) (f : ℕ → ℕ) → ((s : ℕ) → s < n → f s < 4) → (r c : ℕ)
     → conj (matrix M n f c r) ≡ i^ (total (λ s. powerOf (conjugated M (f s))) n % 4) ⊗ matrix M n (λ s. letterOf (conjugated M (f s))) r c
 conjugate-matrix M C n f hf r c =
     entries
-    ∙ sites-in-letters M n (λ s. adjoint (M (f s))) (λ s. powerOf (conjugated M (f s))) (λ s. letterOf (conjugated M (f s))) (λ s x y h hx hy. one s h x y hx hy) r c
+    ∙ sites-in-letters M n (λ s. adjoint (M (f s))) (λ s. powerOf (conjugated M (f s))) (λ s. letterOf (conjugated M (f s)))
+    (λ s x y h hx hy. conjugated-right M C (f s) (hf s h) x y hx hy) r c
   where
     entries : conj (matrix M n f c r) ≡ Π n (λ s. adjoint (M (f s)) (bit s r) (bit s c))
     entries = unfold matrix adjoint in conj-Π n (λ s. M (f s) (bit s c) (bit s r))
-
-    one : (s : ℕ) → s < n → (x y : ℕ) → x < 2 → y < 2 → adjoint (M (f s)) x y ≡ i^ (powerOf (conjugated M (f s))) ⊗ M (letterOf (conjugated M (f s))) x y
-    one s h = unfold conjugated in asLetter-right M (adjoint (M (f s))) (C .conjugated-lt (f s) (hf s h))
 
 -- the same matrix in other letters
 pub convert-matrix : (M M′ : Letters) → Converts M M′ → (n : ℕ) (f : ℕ → ℕ) → ((s : ℕ) → s < n → f s < 4) → (r c : ℕ)
     → matrix M n f r c ≡ i^ (total (λ s. powerOf (converted M M′ (f s))) n % 4) ⊗ matrix M′ n (λ s. letterOf (converted M M′ (f s))) r c
 convert-matrix M M′ C n f hf r c =
     entries
-    ∙ sites-in-letters M′ n (λ s. M (f s)) (λ s. powerOf (converted M M′ (f s))) (λ s. letterOf (converted M M′ (f s))) (λ s x y h hx hy. one s h x y hx hy) r c
+    ∙ sites-in-letters M′ n (λ s. M (f s)) (λ s. powerOf (converted M M′ (f s))) (λ s. letterOf (converted M M′ (f s)))
+    (λ s x y h hx hy. converted-right M M′ C (f s) (hf s h) x y hx hy) r c
   where
     entries : matrix M n f r c ≡ Π n (λ s. M (f s) (bit s r) (bit s c))
     entries = unfold matrix in refl
-
-    one : (s : ℕ) → s < n → (x y : ℕ) → x < 2 → y < 2 → M (f s) x y ≡ i^ (powerOf (converted M M′ (f s))) ⊗ M′ (letterOf (converted M M′ (f s))) x y
-    one s h = unfold converted in asLetter-right M′ (M (f s)) (C .converted-lt (f s) (hf s h))
 
 -- a conjugate transpose and a conversion keep the letters
 pub conjugate-keeps : (M : Letters) → Closed M → (n : ℕ) (f : ℕ → ℕ) → ((s : ℕ) → s < n → f s < 4) → (r c : ℕ)

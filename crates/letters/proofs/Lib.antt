@@ -6,3 +6,5 @@ pub mod ParityLaws
 pub mod TableLaws
 pub mod Letterings
 pub mod Codes
+pub mod FactorLaws
+pub mod ReadingLaws

@@ -53,6 +53,26 @@ pub record Converts (M M′ : Letters) : Type 0 where
   pub converted-lt : (l : ℕ) → l < 4 → converted M M′ l < 16
   pub converted-letter : (l : ℕ) → l < 4 → letterOf (converted M M′ l) ≡ l
 
+-- ---- what is found, for such letters
+
+-- the product of two letters
+pub times-right : (M : Letters) → Closed M → (l r : ℕ) → l < 4 → r < 4 → (x y : ℕ) → x < 2 → y < 2
+    → product (M l) (M r) x y ≡ i^ (powerOf (times M l r)) ⊗ M (letterOf (times M l r)) x y
+unfolding times
+times-right M C l r hl hr = asLetter-right M (product (M l) (M r)) (C .times-lt l r hl hr)
+
+-- the conjugate transpose of a letter
+pub conjugated-right : (M : Letters) → Closed M → (l : ℕ) → l < 4 → (x y : ℕ) → x < 2 → y < 2
+    → adjoint (M l) x y ≡ i^ (powerOf (conjugated M l)) ⊗ M (letterOf (conjugated M l)) x y
+unfolding conjugated
+conjugated-right M C l hl = asLetter-right M (adjoint (M l)) (C .conjugated-lt l hl)
+
+-- a letter in other letters
+pub converted-right : (M M′ : Letters) → Converts M M′ → (l : ℕ) → l < 4 → (x y : ℕ) → x < 2 → y < 2
+    → M l x y ≡ i^ (powerOf (converted M M′ l)) ⊗ M′ (letterOf (converted M M′ l)) x y
+unfolding converted
+converted-right M M′ C l hl = asLetter-right M′ (M l) (C .converted-lt l hl)
+
 -- ---- the same as tests
 
 -- a code of the sixteen with the letter l

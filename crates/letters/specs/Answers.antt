@@ -4,10 +4,11 @@ use Prim.Native.Nat.{ℕ}
 use mathlib.Core.Bool.{_||_, cond}
 use mathlib.Core.List.{[]}
 use lib.Dec.{ltb}
-use lib.Ieee.{Float}
+use lib.Ieee.{Float, binary64, ofInt}
 use Rattle.refusal.specs.Refusals.{Said, gives, refuses, number, siteOf}
 use Rattle.complex.specs.Complex.{unitOfI}
 use Rattle.complex.specs.declared.Complex.{Complex}
+use Rattle.letters.specs.Gauss.{G}
 use Rattle.letters.specs.Matrices.{Letters}
 use Rattle.letters.specs.Single.{times, conjugated, converted, letterOf, powerOf}
 use Rattle.letters.specs.declared.Kind.{Kind}
@@ -21,18 +22,22 @@ abbrev pub other : Kind → Kind
 other Pauli = Decoherence
 other Decoherence = Pauli
 
+-- the highest letter code: number 2 is a "letter code above 3"
+abbrev pub highestLetter : ℕ
+highestLetter = 3
+
 -- the letter and the power of i of 4 k + c
 abbrev pub decoded : ℕ → Said (ℕ × ℕ)
 decoded e = gives (letterOf e, powerOf e)
 
 unfoldable pub multiplyLetters : Letters → ℕ → ℕ → Said (ℕ × ℕ)
-multiplyLetters M l r = cond (ltb 3 l || ltb 3 r) (refuses 2 []) (decoded (times M l r))
+multiplyLetters M l r = cond (ltb highestLetter l || ltb highestLetter r) (refuses 2 []) (decoded (times M l r))
 
 unfoldable pub conjugateLetter : Letters → ℕ → Said (ℕ × ℕ)
-conjugateLetter M l = cond (ltb 3 l) (refuses 2 []) (decoded (conjugated M l))
+conjugateLetter M l = cond (ltb highestLetter l) (refuses 2 []) (decoded (conjugated M l))
 
 unfoldable pub convertLetter : Letters → Letters → ℕ → Said (ℕ × ℕ)
-convertLetter M M′ l = cond (ltb 3 l) (refuses 2 []) (decoded (converted M M′ l))
+convertLetter M M′ l = cond (ltb highestLetter l) (refuses 2 []) (decoded (converted M M′ l))
 
 -- the power of i as a complex factor, and as a real one (its real part; the factor of a power that is even)
 abbrev pub asComplex : Said (ℕ × ℕ) → Said (ℕ × Complex)
@@ -42,6 +47,10 @@ asComplex (refuses k s) = refuses k s
 abbrev pub asSign : Said (ℕ × ℕ) → Said (ℕ × Float)
 asSign (gives x) = gives (x .0, unitOfI (x .1) .re)
 asSign (refuses k s) = refuses k s
+
+-- a Gaussian integer as two f64
+abbrev pub inFloats : G → Complex
+inFloats z = record { re = ofInt binary64 (z .re); im = ofInt binary64 (z .im) }
 
 -- ---- what each case of an answer says
 

@@ -1,7 +1,6 @@
 // The letters of one site: 0 identity, 1 X, 2 Y (iY in a decoherence product), 3 Z.
 // A factor is a power of i, 0 to 3; the modules answer it as the Rust does.
 ghost use mathlib.Core.Path.{_≡_};
-ghost use Prim.Native.Nat.{_<_};
 ghost use Rattle.letters.specs.Matrices.{lettersOf};
 ghost use Rattle.letters.specs.Answers.{other, saidLetter, multiplyLetters, conjugateLetter, convertLetter};
 use refusal::Refusal;
@@ -9,6 +8,9 @@ use refusal::Refusal;
 pub mod single_decoherence_operator;
 pub mod single_pauli_operator;
 mod tables;
+
+// The highest letter code.
+pub const HIGHEST_LETTER: u8 = 3;
 
 pub enum Kind {
     Pauli,
@@ -37,10 +39,10 @@ pub enum SignedLetter {
 pub fn multiply(kind: Kind, left: u8, right: u8) -> LetterAnswer
     ensures { λ r. ⌜ saidLetter r ≡ multiplyLetters (lettersOf kind) left right ⌝ }
 {
-    if 3 < left {
+    if HIGHEST_LETTER < left {
         return LetterAnswer::Refused(Refusal::UnknownLetter);
     }
-    if 3 < right {
+    if HIGHEST_LETTER < right {
         return LetterAnswer::Refused(Refusal::UnknownLetter);
     }
     let x = tables::product(kind, left, right);
@@ -51,7 +53,7 @@ pub fn multiply(kind: Kind, left: u8, right: u8) -> LetterAnswer
 pub fn conjugate(kind: Kind, letter: u8) -> LetterAnswer
     ensures { λ r. ⌜ saidLetter r ≡ conjugateLetter (lettersOf kind) letter ⌝ }
 {
-    if 3 < letter {
+    if HIGHEST_LETTER < letter {
         return LetterAnswer::Refused(Refusal::UnknownLetter);
     }
     LetterAnswer::Letter(letter, tables::conjugate_power(kind, letter))
@@ -61,7 +63,7 @@ pub fn conjugate(kind: Kind, letter: u8) -> LetterAnswer
 pub fn convert(kind: Kind, letter: u8) -> LetterAnswer
     ensures { λ r. ⌜ saidLetter r ≡ convertLetter (lettersOf kind) (lettersOf (other kind)) letter ⌝ }
 {
-    if 3 < letter {
+    if HIGHEST_LETTER < letter {
         return LetterAnswer::Refused(Refusal::UnknownLetter);
     }
     LetterAnswer::Letter(letter, tables::convert_power(kind, letter))

@@ -13,6 +13,7 @@ use lib.ListN.{length, take, length-map}
 use lib.Seq.{take-suc, length-take-le, getD-take, ext-getD}
 use borrow.Author.Tests.{eq-eqb, ne-eqb}
 use Rattle.letters.proofs.TestLaws.{bool-ext, every-intro}
+use Rattle.letters.specs.Answers.{highestLetter}
 use Rattle.products.specs.Lists.{at, support, padded, larger}
 use Rattle.products.specs.Record.{capacity, highestSite, placeValid, valid, lookup, letterAt, reach, recordOf, sameItems}
 use Rattle.products.specs.Answers.{emptyProduct}
@@ -119,7 +120,8 @@ extensional p q v w h =
 
 -- ---- the record of a lettering is valid
 
-pub record-valid : (f : ℕ → ℕ) (span : ℕ) → ((s : ℕ) → s < span → f s ≤ 3) → span ≤ suc highestSite → length (support f span) ≤ capacity → valid (recordOf f span) ≡ true
+pub record-valid : (f : ℕ → ℕ) (span : ℕ) → ((s : ℕ) → s < span → f s ≤ highestLetter) → span ≤ suc highestSite → length (support f span) ≤ capacity
+    → valid (recordOf f span) ≡ true
 unfolding recordOf
 record-valid f span h t fits =
     let l = support f span in
@@ -184,6 +186,11 @@ record-beyond f span s l =
 
 -- ---- the empty product
 
+-- number 0 lets it pass
+pub empty-valid : valid emptyProduct ≡ true
+unfolding emptyProduct
+empty-valid = record-valid (λ s. 0) 0 (λ s l. omega arith) (omega arith) (omega (arith, length-support (λ s. 0) 0))
+
 -- a record without letters reaches no site
 none-reached : (p : Items) → p .count ≡ 0 → reach p ≡ 0
 unfolding reach
@@ -196,8 +203,7 @@ none-held p v e = sym (canonical p v) ∙ ap (recordOf (letterAt p)) (none-reach
 
 -- so a record without letters is that of the empty product where number 0 lets it pass
 pub empty-told : (p : Items) → p .count ≡ 0 → valid p ≡ sameItems p emptyProduct
-unfolding emptyProduct
 empty-told p e =
     bool-ext (valid p) (sameItems p emptyProduct)
     (λ v. subst (λ q. sameItems p q ≡ true) (none-held p v e) (same-self p))
-    (λ t. subst (λ q. valid q ≡ true) (sym (same-equal p emptyProduct t)) (record-valid (λ s. 0) 0 (λ s l. omega arith) (omega arith) (omega (arith, length-support (λ s. 0) 0))))
+    (λ t. subst (λ q. valid q ≡ true) (sym (same-equal p emptyProduct t)) empty-valid)

@@ -10,7 +10,7 @@ use Rattle.refusal.specs.declared.Refusal.{Refusal}
 use Rattle.letters.specs.Sums.{total}
 use Rattle.letters.specs.Matrices.{lettersOf}
 use Rattle.letters.specs.Single.{letterOf, powerOf}
-use Rattle.letters.specs.Answers.{other, decoded, saidLetter, conjugateLetter, convertLetter}
+use Rattle.letters.specs.Answers.{other, decoded, saidLetter, conjugateLetter, convertLetter, highestLetter}
 use Rattle.letters.specs.declared.Kind.{Kind}
 use Rattle.letters.specs.declared.LetterAnswer.{LetterAnswer}
 use Rattle.letters.proofs.TableLaws.{closed, converts}
@@ -54,13 +54,13 @@ pub conjugate-says : {change : Change} {kind : Kind} {l : ℕ} {a r : LetterAnsw
     → saidLetter a ≡ decoded (changed change l)
 unfolding conjugateLetter
 conjugate-says {l = l} h e s q =
-    ap saidLetter q ∙ s ∙ rw (le-ltb 3 l (omega arith)) (ap (λ c. decoded (changed c l)) (sym e))
+    ap saidLetter q ∙ s ∙ rw (le-ltb highestLetter l (omega arith)) (ap (λ c. decoded (changed c l)) (sym e))
 
 pub convert-says : {change : Change} {kind : Kind} {l : ℕ} {a r : LetterAnswer} → l < 4 → change ≡ Convert kind → saidLetter r ≡ convertLetter (lettersOf kind) (lettersOf (other kind)) l → a ≡ r
     → saidLetter a ≡ decoded (changed change l)
 unfolding convertLetter
 convert-says {l = l} h e s q =
-    ap saidLetter q ∙ s ∙ rw (le-ltb 3 l (omega arith)) (ap (λ c. decoded (changed c l)) (sym e))
+    ap saidLetter q ∙ s ∙ rw (le-ltb highestLetter l (omega arith)) (ap (λ c. decoded (changed c l)) (sym e))
 
 -- the power in an answer; a refusal says no letter
 pub said-power : {a : LetterAnswer} {l k : ℕ} (e : ℕ) → saidLetter a ≡ decoded e → a ≡ LetterAnswer.Letter l k → k ≡ powerOf e

@@ -12,6 +12,7 @@ use lib.Pow.{shl-exact}
 use borrow.Author.Tests.{lt-ltb, le-ltb, leb-true}
 use Rattle.letters.specs.Tests.{every}
 use Rattle.letters.proofs.TestLaws.{and-left, every-more}
+use Rattle.letters.specs.Answers.{highestLetter}
 use Rattle.products.specs.Lists.{at}
 use Rattle.products.specs.Record.{capacity, highestSite, placeValid, valid}
 use Rattle.products.specs.Masks.{letterBits, masksIn, masksOf}
@@ -75,7 +76,7 @@ module _ {p : Items} {i low m : ℕ} (j : Judging p i low m) (h : i < p .count) 
   judging-site e f =
       let a = leb (at (p .sites) i) highestSite in
       let b = leb 1 (at (p .letters) i) in
-      let c = leb (at (p .letters) i) 3 in
+      let c = leb (at (p .letters) i) highestLetter in
       let d = leb low (at (p .sites) i) in
       leb-true (at (p .sites) i) highestSite (and-left a b (and-left (a && b) c (and-left (a && b && c) d (sym e ∙ f))))
 

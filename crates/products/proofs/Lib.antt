@@ -12,6 +12,7 @@ pub mod PutLaws
 pub mod TargetLaws
 pub mod RemapLaws
 pub mod ChangeLaws
+pub mod SignLaws
 pub mod RowLaws
 pub mod MaskLaws
 pub mod MaskKeys
@@ -22,3 +23,4 @@ pub mod OrderLaws
 pub mod ProductTheorems
 pub mod ProductCases
 pub mod RowCases
+pub mod ReadingLaws

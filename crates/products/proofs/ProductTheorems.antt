@@ -17,7 +17,7 @@ use Rattle.letters.specs.Matrices.{Letters, lettersOf, matrix}
 use Rattle.letters.specs.Single.{letterOf, powerOf, times, conjugated, converted}
 use Rattle.letters.specs.Rows.{columnOf, rowPower}
 use Rattle.letters.specs.declared.Kind.{Kind}
-use Rattle.letters.specs.Answers.{other}
+use Rattle.letters.specs.Answers.{other, highestLetter}
 use Rattle.letters.proofs.TestLaws.{first-before}
 use Rattle.letters.proofs.TableLaws.{closed, converts}
 use Rattle.letters.proofs.Letterings.{matrix-same, multiply-matrix, conjugate-matrix, convert-matrix, join-matrix, row-matrix, columnOf-lt, HasIdentity}
@@ -60,10 +60,10 @@ code : (p : Items) → valid p ≡ true → (s : ℕ) → letterAt p s < 4
 code p v s = omega (arith, letter-code p v s)
 
 -- the record of letters up to 3, on sites up to the highest, is valid
-codes-valid : (h : ℕ → ℕ) (span : ℕ) → ((s : ℕ) → h s ≤ 3) → span ≤ suc highestSite → valid (recordOf h span) ≡ true
+codes-valid : (h : ℕ → ℕ) (span : ℕ) → ((s : ℕ) → h s ≤ highestLetter) → span ≤ suc highestSite → valid (recordOf h span) ≡ true
 codes-valid h span c m = record-valid h span (λ s l. c s) m (fits-span h span m)
 
-letter-most : (e : ℕ) → letterOf e ≤ 3
+letter-most : (e : ℕ) → letterOf e ≤ highestLetter
 letter-most e = omega arith
 
 -- ---- setting
@@ -72,17 +72,17 @@ module _ (p : Items) (s l : ℕ) where
   record SetTo (x : Items) : Type 0 where
     held : valid p ≡ true
     site : s ≤ highestSite
-    letter : l ≤ 3
+    letter : l ≤ highestLetter
     items : recordOf (update (letterAt p) s l) (larger (reach p) (suc s)) ≡ x
 
   set-to : (x : Items) → setAnswer p s l ≡ (done, x) → SetTo x
   unfolding setAnswer
   set-to x e =
       let z₃ : Said Unit × Items = (done, recordOf (update (letterAt p) s l) (larger (reach p) (suc s))) in
-      let z₂ : Said Unit × Items = cond (ltb 3 l) (refuses 2 [], p) z₃ in
+      let z₂ : Said Unit × Items = cond (ltb highestLetter l) (refuses 2 [], p) z₃ in
       let a = done-past (not (valid p)) 0 [] p x (cond (ltb highestSite s) (refuses 1 (s ∷ []), p) z₂) e in
       let b = done-past (ltb highestSite s) 1 (s ∷ []) p x z₂ (a .1) in
-      let c = done-past (ltb 3 l) 2 [] p x z₃ (b .1) in
+      let c = done-past (ltb highestLetter l) 2 [] p x z₃ (b .1) in
       record { held = not-false _ (a .0); site = ltb-false _ _ (b .0); letter = ltb-false _ _ (c .0); items = ap (λ (z : Said Unit × Items). z .1) (c .1) }
 
   -- the answer has the letter on the site, and elsewhere the letters that were there
@@ -105,7 +105,7 @@ module _ (p : Items) (s l : ℕ) where
       (codes-valid (update (letterAt p) s l) (larger (reach p) (suc s)) (λ t. go (eqb t s) (letterAt p t) (a .letter) (letter-code p (a .held) t))
       (larger-most (reach p) (suc s) _ (reach-most p (a .held)) (omega (arith, a .site))))
     where
-      go : (b : Bool) (f : ℕ) → l ≤ 3 → f ≤ 3 → cond b l f ≤ 3
+      go : (b : Bool) (f : ℕ) → l ≤ highestLetter → f ≤ highestLetter → cond b l f ≤ highestLetter
       go true f h k = h
       go false f h k = k
 

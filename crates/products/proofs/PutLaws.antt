@@ -17,6 +17,7 @@ use Rattle.letters.specs.declared.Kind.the-variants.{Pauli}
 use Rattle.refusal.specs.Refusals.{gives, refuses, done}
 use Rattle.letters.proofs.TestLaws.{first-at, first-none, first-before}
 use Rattle.letters.proofs.TableLaws.{Closed, closed}
+use Rattle.letters.specs.Answers.{highestLetter}
 use Rattle.products.specs.Lists.{at, larger}
 use Rattle.products.specs.Record.{highestSite, capacity, valid, letterAt, reach, reachOf, recordOf, update}
 use Rattle.products.specs.Answers.{emptyProduct, getAnswer, setAnswer, multiplyAnswer, firstOccupied, concatenateAnswer}
@@ -59,7 +60,7 @@ letters-all f a z s =
     ]
 
 -- a letter is its own remainder
-small : (a : ℕ) → a ≤ 3 → letterOf a ≡ a
+small : (a : ℕ) → a ≤ highestLetter → letterOf a ≡ a
 small a l = omega arith
 
 -- no letter beyond both products
@@ -125,7 +126,7 @@ freed-done p {site} {i} {out} v f l =
 
 -- ---- a site set
 
-module _ (p : Items) (site letter : ℕ) (v : valid p ≡ true) (low : site ≤ highestSite) (known : letter ≤ 3) where
+module _ (p : Items) (site letter : ℕ) (v : valid p ≡ true) (low : site ≤ highestSite) (known : letter ≤ highestLetter) where
   -- the letters of p without the site's, the letter alone, and p's with the letter on the site
   abbrev freed : ℕ → ℕ
   freed = update (letterAt p) site 0
@@ -137,14 +138,14 @@ module _ (p : Items) (site letter : ℕ) (v : valid p ≡ true) (low : site ≤ 
   wanted = update (letterAt p) site letter
 
   -- both have letters of at most 3
-  freed-code : (s : ℕ) → freed s ≤ 3
+  freed-code : (s : ℕ) → freed s ≤ highestLetter
   freed-code s =
       elim (ℕ-discrete s site) [
         | yes e ↦ rw (update-here (letterAt p) site 0 s e) (omega arith)
         | no n ↦ rw (update-other (letterAt p) site 0 s n) (letter-code p v s)
       ]
 
-  alone-code : (s : ℕ) → alone s ≤ 3
+  alone-code : (s : ℕ) → alone s ≤ highestLetter
   alone-code s =
       elim (ℕ-discrete s site) [
         | yes e ↦ rw (update-here (λ t. 0) site letter s e) known
@@ -225,9 +226,10 @@ unfolding getAnswer
 get-letter p s l v m e n = rw (v, le-ltb highestSite s m, ne-eqb (letterAt p s) 0 (λ z. n (e ∙ z)), e)
 
 -- the record set
-pub set-done : (p : Items) (s l : ℕ) {q : Items} → valid p ≡ true → s ≤ highestSite → l ≤ 3 → q ≡ recordOf (update (letterAt p) s l) (larger (reach p) (suc s)) → (done, q) ≡ setAnswer p s l
+pub set-done : (p : Items) (s l : ℕ) {q : Items} → valid p ≡ true → s ≤ highestSite → l ≤ highestLetter
+    → q ≡ recordOf (update (letterAt p) s l) (larger (reach p) (suc s)) → (done, q) ≡ setAnswer p s l
 unfolding setAnswer
-set-done p s l v m k e = rw (v, le-ltb highestSite s m, le-ltb 3 l k) (λ i. (done, e i))
+set-done p s l v m k e = rw (v, le-ltb highestSite s m, le-ltb highestLetter l k) (λ i. (done, e i))
 
 -- ---- the product
 
@@ -293,7 +295,7 @@ join-record kind p q v w h =
     record-ext (λ s. letterOf (times (lettersOf kind) (letterAt p s) (letterAt q s))) (λ s. letterAt p s + letterAt q s) (reachOf p q)
     (λ s l. both (closed kind) (letterAt p s) (letterAt q s) (letter-code p v s) (letter-code q w s) (one-letter p q h s))
   where
-    both : {M : Letters} → Closed M → (a b : ℕ) → a ≤ 3 → b ≤ 3 → (0 < b → a ≡ 0) → letterOf (times M a b) ≡ a + b
+    both : {M : Letters} → Closed M → (a b : ℕ) → a ≤ highestLetter → b ≤ highestLetter → (0 < b → a ≡ 0) → letterOf (times M a b) ≡ a + b
     both {M} k a b l m z =
         elim (decLt 0 b) [
           | yes g ↦ rw (z g) (ap letterOf (k .zero-times b (omega arith)) ∙ small b m ∙ (let e : b ≡ 0 + b = omega arith in e))

@@ -14,6 +14,7 @@ use lib.ListN.{length, List·getD-eq-default}
 use borrow.Author.Tests.{lt-ltb, le-ltb, le-leb, lt-leb, leb-true, ltb-true, eqb-true, eq-eqb, ne-eqb}
 use Rattle.letters.specs.Tests.{every}
 use Rattle.letters.proofs.TestLaws.{and-true, and-left, and-right, and-false, every-at, every-false, every-more}
+use Rattle.letters.specs.Answers.{highestLetter}
 use Rattle.products.specs.Lists.{at}
 use Rattle.products.specs.Record.{capacity, highestSite, placeValid, inShape, valid, lookup, letterAt, reach}
 use Rattle.products.specs.declared.items.Items.{Items}
@@ -22,10 +23,11 @@ use Rattle.products.proofs.ListLaws.{below-cases}
 -- ---- one place
 
 -- a place below the count that is as it should be
-pub place-in : (count : ℕ) (sites letters : List ℕ) (i : ℕ) → i < count → at sites i ≤ highestSite → 1 ≤ at letters i → at letters i ≤ 3 → (1 ≤ i → at sites (i - 1) < at sites i) → placeValid count sites letters i ≡ true
+pub place-in : (count : ℕ) (sites letters : List ℕ) (i : ℕ) → i < count → at sites i ≤ highestSite
+    → 1 ≤ at letters i → at letters i ≤ highestLetter → (1 ≤ i → at sites (i - 1) < at sites i) → placeValid count sites letters i ≡ true
 unfolding placeValid
 place-in count sites letters i l a b c d =
-    rw (lt-ltb i count l, le-leb (at sites i) highestSite a, le-leb 1 (at letters i) b, le-leb (at letters i) 3 c)
+    rw (lt-ltb i count l, le-leb (at sites i) highestSite a, le-leb 1 (at letters i) b, le-leb (at letters i) highestLetter c)
     (elim (decLt i 1) [ yes h ↦ rw (lt-ltb i 1 h) | no h ↦ rw (le-ltb i 1 (omega arith), lt-ltb (at sites (i - 1)) (at sites i) (d (omega arith))) ])
 
 -- a place past the count with zeros
@@ -37,7 +39,7 @@ place-out count sites letters i l a b = rw (le-ltb i count l, a, b)
 pub record Place (sites letters : List ℕ) (i : ℕ) : Type 0 where
   pub site-most : at sites i ≤ highestSite
   pub letter-there : 1 ≤ at letters i
-  pub letter-most : at letters i ≤ 3
+  pub letter-most : at letters i ≤ highestLetter
   pub ascends : 1 ≤ i → at sites (i - 1) < at sites i
 
 pub place-of : (count : ℕ) (sites letters : List ℕ) (i : ℕ) → i < count → placeValid count sites letters i ≡ true → Place sites letters i
@@ -45,7 +47,7 @@ unfolding placeValid
 place-of count sites letters i l h =
     let t₁ = leb (at sites i) highestSite in
     let t₂ = leb 1 (at letters i) in
-    let t₃ = leb (at letters i) 3 in
+    let t₃ = leb (at letters i) highestLetter in
     let t₄ = cond (ltb i 1) true (ltb (at sites (i - 1)) (at sites i)) in
     let h₄ : (t₁ && t₂ && t₃ && t₄) ≡ true = rw (lt-ltb i count l) at h in
     let h₃ : (t₁ && t₂ && t₃) ≡ true = and-left (t₁ && t₂ && t₃) t₄ h₄ in
@@ -54,7 +56,7 @@ place-of count sites letters i l h =
     record {
       site-most = leb-true (at sites i) highestSite (and-left t₁ t₂ h₂);
       letter-there = leb-true 1 (at letters i) (and-right t₁ t₂ h₂);
-      letter-most = leb-true (at letters i) 3 (and-right (t₁ && t₂) t₃ h₃);
+      letter-most = leb-true (at letters i) highestLetter (and-right (t₁ && t₂) t₃ h₃);
       ascends = λ e. ltb-true (at sites (i - 1)) (at sites i) (rw (le-ltb i 1 e) at last);
     }
 
@@ -263,7 +265,7 @@ pub letter-here : (p : Items) → valid p ≡ true → (i : ℕ) → i < p .coun
 unfolding letterAt
 letter-here p v i l = lookup-at (p .sites) (p .letters) (p .count) i l (λ j a b e. omega (arith, ascending p v i j a b))
 
-pub letter-code : (p : Items) → valid p ≡ true → (s : ℕ) → letterAt p s ≤ 3
+pub letter-code : (p : Items) → valid p ≡ true → (s : ℕ) → letterAt p s ≤ highestLetter
 unfolding letterAt
 letter-code p v s = lookup-most (p .sites) (p .letters) (p .count) s 3 (λ i l. valid-at p v i l .letter-most)
 

@@ -10,7 +10,7 @@ use Rattle.refusal.specs.Refusals.{Said, gives, refuses, number, siteOf}
 use Rattle.refusal.specs.declared.Refusal.{Refusal}
 use Rattle.letters.specs.Matrices.{Letters}
 use Rattle.letters.specs.Single.{letterOf, powerOf, times}
-use Rattle.letters.specs.Answers.{saidLetter, multiplyLetters}
+use Rattle.letters.specs.Answers.{saidLetter, multiplyLetters, highestLetter}
 use Rattle.letters.specs.declared.LetterAnswer.{LetterAnswer}
 use Rattle.products.specs.Lists.{at}
 use Rattle.products.specs.Record.{capacity, highestSite, valid}
@@ -94,7 +94,7 @@ module _ (M : Letters) (p q : Items) (i j : ℕ) {a b : ℕ} (e : a ≡ nextSite
 -- no refusal
 multiplied : (M : Letters) (l r : ℕ) → l < 4 → r < 4 → multiplyLetters M l r ≡ gives (letterOf (times M l r), powerOf (times M l r))
 unfolding multiplyLetters
-multiplied M l r h k = rw (le-ltb 3 l (omega arith), le-ltb 3 r (omega arith))
+multiplied M l r h k = rw (le-ltb highestLetter l (omega arith), le-ltb highestLetter r (omega arith))
 
 -- so an answer with a letter has the product, and there is no other
 pub shared-letter : (M : Letters) (l r : ℕ) → l < 4 → r < 4 → {x : LetterAnswer} {a b : ℕ} → x ≡ LetterAnswer.Letter a b → saidLetter x ≡ multiplyLetters M l r → (a ≡ letterOf (times M l r)) × (b ≡ powerOf (times M l r))

@@ -12,6 +12,7 @@ use Rattle.letters.specs.Sums.{total}
 use Rattle.letters.specs.Matrices.{Letters}
 use Rattle.letters.specs.Single.{letterOf, powerOf, times, conjugated, converted}
 use Rattle.letters.specs.Rows.{columnOf, rowPower}
+use Rattle.letters.specs.Answers.{highestLetter}
 use Rattle.products.specs.Lists.{at, larger, smaller}
 use Rattle.products.specs.Record.{highestSite, valid, lookup, letterAt, reach, reachOf, recordOf, update}
 use Rattle.products.specs.declared.items.Items.{Items}
@@ -38,7 +39,7 @@ unfoldable pub setAnswer : Items → ℕ → ℕ → Said Unit × Items
 setAnswer p s l =
     cond (not (valid p)) (refuses 0 [], p)
     (cond (ltb highestSite s) (refuses 1 (s ∷ []), p)
-    (cond (ltb 3 l) (refuses 2 [], p)
+    (cond (ltb highestLetter l) (refuses 2 [], p)
     (done, recordOf (update (letterAt p) s l) (larger (reach p) (suc s)))))
 
 -- site by site the product of the two letters; the powers of i add up

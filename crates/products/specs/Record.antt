@@ -6,6 +6,7 @@ use mathlib.Core.Bool.{Bool, true, _&&_, cond}
 use lib.Dec.{ltb, leb, eqb}
 use lib.ListN.{length}
 use Rattle.letters.specs.Tests.{every}
+use Rattle.letters.specs.Answers.{highestLetter}
 use Rattle.products.specs.Lists.{at, support, padded, larger, sameList}
 use Rattle.products.specs.declared.items.Items.{Items}
 
@@ -16,11 +17,11 @@ capacity = 31
 abbrev pub highestSite : ℕ
 highestSite = 30
 
--- place i: below the count a site of at most the highest, above the site before it, with a letter from 1 to 3; past the count zeros
+-- place i: below the count a site of at most the highest, above the site before it, with a letter from 1 to the highest; past the count zeros
 unfoldable pub placeValid : ℕ → List ℕ → List ℕ → ℕ → Bool
 placeValid count sites letters i =
     cond (ltb i count)
-    (leb (at sites i) highestSite && leb 1 (at letters i) && leb (at letters i) 3 && cond (ltb i 1) true (ltb (at sites (i - 1)) (at sites i)))
+    (leb (at sites i) highestSite && leb 1 (at letters i) && leb (at letters i) highestLetter && cond (ltb i 1) true (ltb (at sites (i - 1)) (at sites i)))
     (leb (at sites i) 0 && ltb (at letters i) 1)
 
 -- arrays of the capacity's length, as every value of the struct has them, and a count of at most that

@@ -11,6 +11,7 @@ use crate::items::Compared;
 use crate::items::Got;
 use crate::items::Items;
 use crate::items::ItemsRow;
+use crate::items::SITE_COUNT;
 use crate::items::Site;
 use crate::pauli_product::PauliProduct;
 use crate::pauli_product::PauliWithFactor;
@@ -110,7 +111,7 @@ impl DecoherenceProduct {
     }
 
     // Each letter moves from its site s to targets[s].
-    pub fn remap_qubits(self, targets: [Site; 31]) -> DecoherenceAnswer
+    pub fn remap_qubits(self, targets: [Site; SITE_COUNT]) -> DecoherenceAnswer
         ensures { λ r. ⌜ toldDecoherence r ≡ remapAnswer (at targets) (self .items) ⌝ }
     {
         let p = self.items;

@@ -4,25 +4,31 @@ ghost use mathlib.Core.Bool.{true, _&&_};
 ghost use Prim.Native.Nat.{_*_, _%_, _^_, _≤_, min};
 ghost use lib.Dec.{leb};
 ghost use Rattle.letters.specs.Tests.{every};
-ghost use Rattle.products.specs.Record.{placeValid, valid, letterAt, sameItems};
+ghost use Rattle.letters.specs.Answers.{highestLetter};
+ghost use Rattle.products.specs.Record.{capacity, highestSite, placeValid, valid, letterAt, sameItems};
 ghost use Rattle.products.specs.Masks.{letterBits};
 ghost use Rattle.products.specs.Verdicts.{judgedMasks};
 ghost use Rattle.products.specs.Answers.{emptyProduct};
+use crate::row::MASK_SIZE;
+use letters::HIGHEST_LETTER;
 use refusal::Outcome;
 use refusal::Refusal;
 
 // The number of a spin.
 pub type Site = u8;
 
-// The highest site, and the sites that a product can occupy at once.
+// The highest site, and how many sites there are.
 pub const HIGHEST_SITE: Site = 30;
 
+pub const SITE_COUNT: usize = HIGHEST_SITE as usize + 1;
+
+// The sites that a product can occupy at once.
 pub const CAPACITY: usize = 31;
 
 pub struct Items {
     pub count: usize,
-    pub sites: [Site; 31],
-    pub letters: [u8; 31],
+    pub sites: [Site; CAPACITY],
+    pub letters: [u8; CAPACITY],
 }
 
 pub struct ItemsAnswer {
@@ -45,7 +51,7 @@ pub enum Got {
 }
 
 // The entry of a row that is not zero: its column and its power of i.
-pub enum ItemsRow {
+pub(crate) enum ItemsRow {
     Entry(u64, u8),
     Refused(Refusal),
 }
@@ -70,14 +76,14 @@ pub fn empty() -> Items
 {
     Items {
         count: 0,
-        sites: [0; 31],
-        letters: [0; 31],
+        sites: [0; CAPACITY],
+        letters: [0; CAPACITY],
     }
 }
 
 // Whether a site and its letter may stand at the next place, where `low` is the lowest site allowed.
 fn fits_next(low: u8, site: Site, letter: u8) -> bool
-    ensures { λ r. ⌜ r ≡ (leb site 30 && leb 1 letter && leb letter 3 && leb low site) ⌝ }
+    ensures { λ r. ⌜ r ≡ (leb site highestSite && leb 1 letter && leb letter highestLetter && leb low site) ⌝ }
 {
     if HIGHEST_SITE < site {
         return false;
@@ -85,16 +91,16 @@ fn fits_next(low: u8, site: Site, letter: u8) -> bool
     if letter < 1 {
         return false;
     }
-    if 3 < letter {
+    if HIGHEST_LETTER < letter {
         return false;
     }
     low <= site
 }
 
 // Whether zeros stand past the count, of arrays that are valid below it. No way out of the loop before its end: it is quicker so.
-fn zeros_past<'a>(count: usize, sites: &'a [Site; 31], letters: &'a [u8; 31]) -> bool
-    requires { ⌜ (count ≤ 31) × (every count (placeValid count (now sites) (now letters)) ≡ true) ⌝ }
-    ensures { λ r. ⌜ r ≡ every 31 (placeValid count (now (sites .entry)) (now (letters .entry))) ⌝ }
+fn zeros_past<'a>(count: usize, sites: &'a [Site; CAPACITY], letters: &'a [u8; CAPACITY]) -> bool
+    requires { ⌜ (count ≤ capacity) × (every count (placeValid count (now sites) (now letters)) ≡ true) ⌝ }
+    ensures { λ r. ⌜ r ≡ every capacity (placeValid count (now (sites .entry)) (now (letters .entry))) ⌝ }
 {
     let mut site_bits: u8 = 0;
     let mut letter_bits: u8 = 0;
@@ -113,7 +119,7 @@ pub(crate) fn bits_at(site: Site, letter: u8) -> u64
 {
     let l = (letter % 4) as u64;
     let turn = (l + l / 2) % 2;
-    (turn + 4294967296 * (l / 2)) << ((site % 32) as u32)
+    (turn + MASK_SIZE * (l / 2)) << ((site % 32) as u32)
 }
 
 // What number 0 says of a record, and the masks of one that it lets pass.
@@ -214,7 +220,7 @@ pub fn is_empty(p: Items) -> bool
 
 // How many places a record with such a count has letters on: at most the capacity.
 pub(crate) fn lettered(count: usize) -> usize
-    ensures { λ r. ⌜ r ≡ min count 31 ⌝ }
+    ensures { λ r. ⌜ r ≡ min count capacity ⌝ }
 {
     if count < CAPACITY { count } else { CAPACITY }
 }

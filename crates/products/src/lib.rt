@@ -4,7 +4,7 @@ pub mod decoherence_product;
 pub mod items;
 mod merge;
 pub mod multiply;
-pub mod order;
+mod order;
 pub mod pauli_product;
 pub mod put;
 pub mod remap;

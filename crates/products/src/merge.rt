@@ -5,7 +5,7 @@ ghost use Prim.Native.Nat.{_+_, _%_, _<_, _≤_};
 ghost use Rattle.letters.specs.Sums.{total};
 ghost use Rattle.letters.specs.Matrices.{lettersOf};
 ghost use Rattle.letters.specs.Single.{letterOf, powerOf, times};
-ghost use Rattle.products.specs.Record.{valid, letterAt, reachOf, recordOf};
+ghost use Rattle.products.specs.Record.{capacity, valid, letterAt, reachOf, recordOf};
 ghost use Rattle.products.specs.Steps.{pushItem, nextSite, stepOf};
 use crate::items::HIGHEST_SITE;
 use crate::items::Items;
@@ -38,7 +38,7 @@ pub(crate) struct ScaledItems {
 
 // One letter more, on a site above all others; the identity changes nothing.
 pub(crate) fn pushed(p: Items, site: Site, letter: u8) -> Items
-    requires { ⌜ (0 < letter → p .count < 31) ⌝ }
+    requires { ⌜ (0 < letter → p .count < capacity) ⌝ }
     ensures { λ r. ⌜ r ≡ pushItem p site letter ⌝ }
 {
     if letter < 1 {

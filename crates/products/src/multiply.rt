@@ -58,7 +58,7 @@ fn first_occupied(p: Items, q: Items) -> usize
 }
 
 // Both products in one. No site is in both, so the letters are those of the product in either order.
-pub fn concatenate(p: Items, q: Items) -> ItemsAnswer
+pub(crate) fn concatenate(p: Items, q: Items) -> ItemsAnswer
     ensures { λ r. ⌜ told r ≡ concatenateAnswer p q ⌝ }
 {
     if !is_valid(p) {

@@ -4,7 +4,9 @@ ghost use Prim.Native.Nat.{_<_, _≤_};
 ghost use lib.ListN.{take};
 ghost use Rattle.refusal.specs.Refusals.{gives};
 ghost use Rattle.products.specs.Lists.{at};
+ghost use Rattle.products.specs.Record.{capacity};
 ghost use Rattle.products.specs.Orders.{andThen, compareNumbers, compareLists, pairs, compareItems, ordering, saidOrder, compareAnswer};
+use crate::items::CAPACITY;
 use crate::items::Compared;
 use crate::items::Items;
 use letters::Kind;
@@ -31,8 +33,8 @@ fn compare_numbers(a: usize, b: usize) -> Ordering
 }
 
 // The first n places: the first that differs decides.
-fn compare_arrays(a: [u8; 31], b: [u8; 31], n: usize) -> Ordering
-    requires { ⌜ n ≤ 31 ⌝ }
+fn compare_arrays(a: [u8; CAPACITY], b: [u8; CAPACITY], n: usize) -> Ordering
+    requires { ⌜ n ≤ capacity ⌝ }
     ensures { λ r. ⌜ ordering r ≡ compareLists (take n a) (take n b) ⌝ }
 {
     let mut i: usize = 0;
@@ -48,7 +50,7 @@ fn compare_arrays(a: [u8; 31], b: [u8; 31], n: usize) -> Ordering
 
 // Place i: the site, then the letter.
 fn compare_places(p: Items, q: Items, i: usize) -> Ordering
-    requires { ⌜ i < 31 ⌝ }
+    requires { ⌜ i < capacity ⌝ }
     ensures { λ r. ⌜ ordering r ≡ andThen (compareNumbers (at (p .sites) i) (at (q .sites) i)) (compareNumbers (at (p .letters) i) (at (q .letters) i)) ⌝ }
 {
     let o = compare_numbers(p.sites[i] as usize, q.sites[i] as usize);
@@ -60,7 +62,7 @@ fn compare_places(p: Items, q: Items, i: usize) -> Ordering
 
 // The first n places, pair by pair.
 fn compare_pairs(p: Items, q: Items, n: usize) -> Ordering
-    requires { ⌜ n ≤ 31 ⌝ }
+    requires { ⌜ n ≤ capacity ⌝ }
     ensures { λ r. ⌜ ordering r ≡ compareLists (pairs (p .sites) (p .letters) n) (pairs (q .sites) (q .letters) n) ⌝ }
 {
     let mut i: usize = 0;
@@ -76,7 +78,7 @@ fn compare_pairs(p: Items, q: Items, n: usize) -> Ordering
 
 // The first n places: all sites, then all letters.
 fn compare_columns(p: Items, q: Items, n: usize) -> Ordering
-    requires { ⌜ n ≤ 31 ⌝ }
+    requires { ⌜ n ≤ capacity ⌝ }
     ensures { λ r. ⌜ ordering r ≡ andThen (compareLists (take n (p .sites)) (take n (q .sites))) (compareLists (take n (p .letters)) (take n (q .letters))) ⌝ }
 {
     let p_sites = p.sites;
@@ -90,9 +92,9 @@ fn compare_columns(p: Items, q: Items, n: usize) -> Ordering
     compare_arrays(p_letters, q_letters, n)
 }
 
-// Records with a count of at most 31: the counts, then what the kind says.
+// Records with a count of at most the capacity: the counts, then what the kind says.
 fn compare_items(kind: Kind, p: Items, q: Items) -> Ordering
-    requires { ⌜ p .count ≤ 31 ⌝ }
+    requires { ⌜ p .count ≤ capacity ⌝ }
     ensures { λ r. ⌜ ordering r ≡ compareItems kind p q ⌝ }
 {
     let n = p.count;
@@ -118,7 +120,7 @@ fn answered(o: Ordering) -> Compared
 }
 
 // How p stands to q in the order of a kind.
-pub fn compare(kind: Kind, p: Items, q: Items) -> Compared
+pub(crate) fn compare(kind: Kind, p: Items, q: Items) -> Compared
     ensures { λ r. ⌜ saidOrder r ≡ compareAnswer kind p q ⌝ }
 {
     if !crate::items::is_valid(p) {

@@ -9,6 +9,7 @@ ghost use Rattle.products.specs.Kinds.{toldPauli, toldPauliFactor, toldP
 use crate::items::Compared;
 use crate::items::Got;
 use crate::items::Items;
+use crate::items::SITE_COUNT;
 use crate::items::Site;
 use complex::Complex;
 use letters::Kind;
@@ -99,7 +100,7 @@ impl PauliProduct {
     }
 
     // Each letter moves from its site s to targets[s].
-    pub fn remap_qubits(self, targets: [Site; 31]) -> PauliAnswer
+    pub fn remap_qubits(self, targets: [Site; SITE_COUNT]) -> PauliAnswer
         ensures { λ r. ⌜ toldPauli r ≡ remapAnswer (at targets) (self .items) ⌝ }
     {
         let p = self.items;

@@ -2,8 +2,9 @@
 ghost use mathlib.Core.Path.{_≡_};
 ghost use mathlib.Core.Bool.{true};
 ghost use Prim.Native.Nat.{suc, _<_, _≤_};
+ghost use Rattle.letters.specs.Answers.{highestLetter};
 ghost use Rattle.products.specs.Lists.{at, larger};
-ghost use Rattle.products.specs.Record.{valid, letterAt, reach, recordOf, update};
+ghost use Rattle.products.specs.Record.{highestSite, valid, letterAt, reach, recordOf, update};
 ghost use Rattle.products.specs.Answers.{saidGot, told, getAnswer, setAnswer};
 use crate::items::Got;
 use crate::items::HIGHEST_SITE;
@@ -16,6 +17,7 @@ use crate::items::letter_at;
 use crate::items::wide;
 use crate::merge::merged;
 use crate::merge::pushed;
+use letters::HIGHEST_LETTER;
 use letters::Kind;
 use refusal::Outcome;
 use refusal::Refusal;
@@ -49,7 +51,7 @@ fn without(p: Items, site: Site) -> Items
 
 // p with a letter on a site: the site is freed, and the letter's own product multiplied in.
 pub(crate) fn put(p: Items, site: Site, letter: u8) -> Items
-    requires { ⌜ (valid p ≡ true) × (site ≤ 30) × (letter ≤ 3) ⌝ }
+    requires { ⌜ (valid p ≡ true) × (site ≤ highestSite) × (letter ≤ highestLetter) ⌝ }
     ensures { λ r. ⌜ r ≡ recordOf (update (letterAt p) site letter) (larger (reach p) (suc site)) ⌝ }
 {
     let rest = without(p, site);
@@ -57,7 +59,7 @@ pub(crate) fn put(p: Items, site: Site, letter: u8) -> Items
     merged(Kind::Pauli, rest, one).items
 }
 
-pub fn get(p: Items, site: Site) -> Got
+pub(crate) fn get(p: Items, site: Site) -> Got
     ensures { λ r. ⌜ saidGot r ≡ getAnswer p site ⌝ }
 {
     if !is_valid(p) {
@@ -88,7 +90,7 @@ pub fn set_pauli(p: Items, site: Site, letter: u8) -> ItemsAnswer
             items: p,
         };
     }
-    if 3 < letter {
+    if HIGHEST_LETTER < letter {
         return ItemsAnswer {
             outcome: Outcome::Refused(Refusal::UnknownLetter),
             items: p,

@@ -3,11 +3,13 @@ ghost use mathlib.Core.Path.{_≡_};
 ghost use mathlib.Core.Bool.{true};
 ghost use Prim.Native.Nat.{ℕ, _<_, _≤_};
 ghost use Rattle.products.specs.Lists.{at};
-ghost use Rattle.products.specs.Record.{valid, lookup, recordOf};
+ghost use Rattle.products.specs.Record.{capacity, highestSite, valid, lookup, recordOf};
 ghost use Rattle.products.specs.Answers.{told, hasTarget, lowestShared, targetReach, firstTooHigh, remapAnswer};
+use crate::items::CAPACITY;
 use crate::items::HIGHEST_SITE;
 use crate::items::Items;
 use crate::items::ItemsAnswer;
+use crate::items::SITE_COUNT;
 use crate::items::Site;
 use crate::items::empty;
 use crate::items::is_valid;
@@ -17,13 +19,13 @@ use refusal::Outcome;
 use refusal::Refusal;
 
 // The targets of the occupied sites, place by place.
-fn targets_of(p: Items, targets: [Site; 31]) -> [Site; 31]
+fn targets_of(p: Items, targets: [Site; SITE_COUNT]) -> [Site; CAPACITY]
     requires { ⌜ valid p ≡ true ⌝ }
     ensures { λ r. ⌜ ((i : ℕ) → i < p .count → at r i ≡ at targets (at (p .sites) i)) ⌝ }
 {
     let count = p.count;
     let sites = p.sites;
-    let mut found: [Site; 31] = [0; 31];
+    let mut found: [Site; CAPACITY] = [0; CAPACITY];
     let mut i: usize = 0;
     while i < count {
         let site = wide(sites[i]);
@@ -34,8 +36,8 @@ fn targets_of(p: Items, targets: [Site; 31]) -> [Site; 31]
 }
 
 // The first place whose target is above the highest site; the count where there is none.
-fn first_too_high(t: [Site; 31], count: usize) -> usize
-    requires { ⌜ count ≤ 31 ⌝ }
+fn first_too_high(t: [Site; CAPACITY], count: usize) -> usize
+    requires { ⌜ count ≤ capacity ⌝ }
     ensures { λ r. ⌜ r ≡ firstTooHigh (at t) count ⌝ }
 {
     let mut i: usize = 0;
@@ -49,8 +51,8 @@ fn first_too_high(t: [Site; 31], count: usize) -> usize
 }
 
 // Whether one of the first n targets is u.
-fn has_target(t: [Site; 31], n: usize, u: Site) -> bool
-    requires { ⌜ n ≤ 31 ⌝ }
+fn has_target(t: [Site; CAPACITY], n: usize, u: Site) -> bool
+    requires { ⌜ n ≤ capacity ⌝ }
     ensures { λ r. ⌜ r ≡ hasTarget (at t) n u ⌝ }
 {
     let mut i: usize = 0;
@@ -64,8 +66,8 @@ fn has_target(t: [Site; 31], n: usize, u: Site) -> bool
 }
 
 // The lowest target that two places share; one more than the highest site where there is none.
-fn lowest_shared(t: [Site; 31], count: usize) -> usize
-    requires { ⌜ count ≤ 31 ⌝ }
+fn lowest_shared(t: [Site; CAPACITY], count: usize) -> usize
+    requires { ⌜ count ≤ capacity ⌝ }
     ensures { λ r. ⌜ r ≡ lowestShared (at t) count ⌝ }
 {
     let mut lowest: usize = wide(HIGHEST_SITE) + 1;
@@ -84,8 +86,8 @@ fn lowest_shared(t: [Site; 31], count: usize) -> usize
 }
 
 // Each letter put on the target of its place.
-fn moved(p: Items, t: [Site; 31]) -> Items
-    requires { ⌜ (valid p ≡ true) × ((i : ℕ) → i < p .count → at t i ≤ 30) ⌝ }
+fn moved(p: Items, t: [Site; CAPACITY]) -> Items
+    requires { ⌜ (valid p ≡ true) × ((i : ℕ) → i < p .count → at t i ≤ highestSite) ⌝ }
     ensures { λ r. ⌜ r ≡ recordOf (lookup t (p .letters) (p .count)) (targetReach (at t) (p .count)) ⌝ }
 {
     let count = p.count;
@@ -100,7 +102,7 @@ fn moved(p: Items, t: [Site; 31]) -> Items
 }
 
 // The letter on each occupied site s goes to targets[s].
-pub fn remap_qubits(p: Items, targets: [Site; 31]) -> ItemsAnswer
+pub fn remap_qubits(p: Items, targets: [Site; SITE_COUNT]) -> ItemsAnswer
     ensures { λ r. ⌜ told r ≡ remapAnswer (at targets) p ⌝ }
 {
     if !is_valid(p) {

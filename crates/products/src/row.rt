@@ -96,7 +96,7 @@ pub fn walked(kind: Kind, masks: u64, row: u64) -> WalkEnd
 }
 
 // The column and the power of i of the entry of `row` that is not zero, over `spins` spins.
-pub fn row(kind: Kind, p: Items, spins: u32, row: u64) -> ItemsRow
+pub(crate) fn row(kind: Kind, p: Items, spins: u32, row: u64) -> ItemsRow
     ensures { λ r. ⌜ saidRow r ≡ rowAnswer (lettersOf kind) p spins row ⌝ }
 {
     if !is_valid(p) {

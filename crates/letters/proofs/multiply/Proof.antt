@@ -3,20 +3,20 @@
 use native.Mathlib.Omega.{arith}
 use borrow.Author.Needs.{needs}
 use borrow.Author.Tests.{lt-ltb, le-ltb}
-use Rattle.letters.specs.Answers.{multiplyLetters}
+use Rattle.letters.specs.Answers.{multiplyLetters, highestLetter}
 use Rattle.letters.proofs.Codes.{answer}
 use Rattle.letters.proofs.multiply.Statement.{statement}
 use Rattle.letters.proofs.multiply.Tie as tie
 
 returns : tie.Need-returns
 unfolding multiplyLetters
-returns c = let a = c .before .args in rw (lt-ltb 3 (a .left) (omega arith))
+returns c = let a = c .before .args in rw (lt-ltb highestLetter (a .left) (omega arith))
 
 returns-2 : tie.Need-returns-2
 unfolding multiplyLetters
 returns-2 c =
     let a = c .before .before .args in
-    rw (le-ltb 3 (a .left) (omega arith), lt-ltb 3 (a .right) (omega arith))
+    rw (le-ltb highestLetter (a .left) (omega arith), lt-ltb highestLetter (a .right) (omega arith))
 
 product-requires : tie.Need-product-requires
 product-requires c κs = search needs
@@ -25,7 +25,7 @@ returns-3 : tie.Need-returns-3
 unfolding multiplyLetters
 returns-3 c =
     let a = c .before .before .before .args in
-    rw (le-ltb 3 (a .left) (omega arith), le-ltb 3 (a .right) (omega arith)) (answer _ (c .product .ensures))
+    rw (le-ltb highestLetter (a .left) (omega arith), le-ltb highestLetter (a .right) (omega arith)) (answer _ (c .product .ensures))
 
 pub multiply-spec : {M : Type 1} → statement M
 multiply-spec = tie.close (tie.spec returns returns-2 product-requires returns-3)

@@ -2,6 +2,7 @@
 use mathlib.Core.Path.{_≡_}
 use native.Mathlib.Omega.{arith}
 use lib.ListN.{length}
+use Rattle.products.specs.Record.{capacity}
 use Rattle.products.specs.Orders.{compareItems}
 use Rattle.products.proofs.OrderingLaws.{first-decides, equal-numbers}
 use Rattle.products.proofs.OrderLaws.{pauli-items, decoherence-items}
@@ -36,8 +37,8 @@ returns-2 c =
     let d = c .before .before .before in
     let a = d .before .before .before .args in
     let e = equal-numbers (d .before .before .compare-numbers .result) (a .p .count) (a .q .count) (d .before .before .compare-numbers .ensures) (d .enum-told .given .1) in
-    let l : length (a .p .sites) ≡ 31 = search needs in
-    let m : length (a .q .sites) ≡ 31 = search needs in
+    let l : length (a .p .sites) ≡ capacity = search needs in
+    let m : length (a .q .sites) ≡ capacity = search needs in
     pauli-items (a .kind) (a .p) (a .q) _ (c .before .enum-told2 .given .1) e (omega arith) (omega arith) (c .compare-columns .ensures)
 
 returns-3 : tie.Need-returns-3

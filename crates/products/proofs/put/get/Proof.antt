@@ -3,6 +3,7 @@
 use mathlib.Core.Path.{sym, _∙_}
 use borrow.Author.Needs.{needs}
 use borrow.Author.Tests.{lt-ltb, not-true, not-false}
+use Rattle.products.specs.Record.{highestSite}
 use Rattle.products.specs.Answers.{getAnswer}
 use Rattle.products.proofs.PutLaws.{get-free, get-letter}
 use Rattle.products.proofs.put.get.Statement.{statement}
@@ -22,7 +23,7 @@ returns-2 : tie.Need-returns-2
 unfolding getAnswer
 returns-2 c =
     let b = c .before .before in
-    rw (c .wide .ensures, sym (b .before .is-valid .ensures) ∙ not-false _ (b .if1 .left), lt-ltb 30 _ (c .before .if2 .taken))
+    rw (c .wide .ensures, sym (b .before .is-valid .ensures) ∙ not-false _ (b .if1 .left), lt-ltb highestSite _ (c .before .if2 .taken))
 
 letter-at-requires : tie.Need-letter-at-requires
 letter-at-requires c κs = sym (c .before .before .is-valid .ensures) ∙ not-false _ (c .before .if1 .left)

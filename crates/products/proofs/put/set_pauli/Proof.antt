@@ -3,6 +3,8 @@
 use mathlib.Core.Path.{sym, _∙_}
 use borrow.Author.Needs.{needs}
 use borrow.Author.Tests.{lt-ltb, le-ltb, not-true, not-false}
+use Rattle.letters.specs.Answers.{highestLetter}
+use Rattle.products.specs.Record.{highestSite}
 use Rattle.products.specs.Answers.{setAnswer}
 use Rattle.products.proofs.PutLaws.{set-done}
 use Rattle.products.proofs.put.set_pauli.Statement.{statement}
@@ -22,13 +24,14 @@ returns-2 : tie.Need-returns-2
 unfolding setAnswer
 returns-2 c =
     let b = c .before .before in
-    rw (c .wide .ensures, sym (b .before .is-valid .ensures) ∙ not-false _ (b .if1 .left), lt-ltb 30 _ (c .before .if2 .taken))
+    rw (c .wide .ensures, sym (b .before .is-valid .ensures) ∙ not-false _ (b .if1 .left), lt-ltb highestSite _ (c .before .if2 .taken))
 
 returns-3 : tie.Need-returns-3
 unfolding setAnswer
 returns-3 c =
     let b = c .before in
-    rw (sym (b .before .before .is-valid .ensures) ∙ not-false _ (b .before .if1 .left), le-ltb 30 _ (b .if2 .left), lt-ltb 3 _ (c .if3 .taken))
+    let passed = sym (b .before .before .is-valid .ensures) ∙ not-false _ (b .before .if1 .left) in
+    rw (passed, le-ltb highestSite _ (b .if2 .left), lt-ltb highestLetter _ (c .if3 .taken))
 
 put-requires : tie.Need-put-requires
 put-requires c κs =

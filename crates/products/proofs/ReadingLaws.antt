@@ -1,0 +1,111 @@
+-- The readings of the answers on products are one to one: what an answer says, and the record beside it, fixes it. Assumes nothing.
+use mathlib.Core.Path.{_≡_, refl, ap}
+use mathlib.Core.List.{List, [], _∷_}
+use Prim.Native.Nat.{ℕ}
+use Rattle.refusal.specs.Refusals.{refusal-is, answerOf, reading-known, outcome-known}
+use Rattle.complex.specs.declared.Complex.{Complex}
+use Rattle.products.specs.Answers.{saidGot, saidRow, told, toldPower}
+use Rattle.products.specs.Orders.{Order, less, equal, greater, saidOrder}
+use Rattle.products.specs.Kinds.{toldPauli, toldPauliFactor, toldPauliSign, toldDecoherence, toldFactor, toldSign, saidProductRow}
+use Rattle.products.specs.declared.items.ItemsAnswer.{ItemsAnswer}
+use Rattle.products.specs.declared.items.ItemsWithPower.{ItemsWithPower}
+use Rattle.products.specs.declared.items.Got.{Got}
+use Rattle.products.specs.declared.items.ItemsRow.{ItemsRow}
+use Rattle.products.specs.declared.items.Compared.{Compared}
+use Rattle.products.specs.declared.pauli_product.PauliAnswer.{PauliAnswer}
+use Rattle.products.specs.declared.pauli_product.PauliWithFactor.{PauliWithFactor}
+use Rattle.products.specs.declared.pauli_product.PauliWithSign.{PauliWithSign}
+use Rattle.products.specs.declared.decoherence_product.DecoherenceAnswer.{DecoherenceAnswer}
+use Rattle.products.specs.declared.decoherence_product.DecoherenceWithFactor.{DecoherenceWithFactor}
+use Rattle.products.specs.declared.decoherence_product.DecoherenceWithSign.{DecoherenceWithSign}
+use Rattle.products.specs.declared.decoherence_product.ProductRow.{ProductRow}
+
+-- ---- enums
+
+pub got-known : (a b : Got) → saidGot a ≡ saidGot b → a ≡ b
+got-known = reading-known saidGot given Got.Refused back
+  where
+    given : List ℕ → Got
+    given [] = Got.Free
+    given (l ∷ ls) = Got.Letter l
+
+    back : (a : Got) → answerOf given Got.Refused (saidGot a) ≡ a
+    back (Got.Letter l) = refl
+    back Got.Free = refl
+    back (Got.Refused why) = ap Got.Refused (refusal-is why)
+
+pub row-known : (a b : ItemsRow) → saidRow a ≡ saidRow b → a ≡ b
+row-known = reading-known saidRow given ItemsRow.Refused back
+  where
+    given : ℕ × ℕ → ItemsRow
+    given x = ItemsRow.Entry (x .0) (x .1)
+
+    back : (a : ItemsRow) → answerOf given ItemsRow.Refused (saidRow a) ≡ a
+    back (ItemsRow.Entry c k) = refl
+    back (ItemsRow.Refused why) = ap ItemsRow.Refused (refusal-is why)
+
+pub product-row-known : (a b : ProductRow) → saidProductRow a ≡ saidProductRow b → a ≡ b
+product-row-known = reading-known saidProductRow given ProductRow.Refused back
+  where
+    given : ℕ × Complex → ProductRow
+    given x = ProductRow.Entry (x .0) (x .1)
+
+    back : (a : ProductRow) → answerOf given ProductRow.Refused (saidProductRow a) ≡ a
+    back (ProductRow.Entry c z) = refl
+    back (ProductRow.Refused why) = ap ProductRow.Refused (refusal-is why)
+
+pub compared-known : (a b : Compared) → saidOrder a ≡ saidOrder b → a ≡ b
+compared-known = reading-known saidOrder given Compared.Refused back
+  where
+    given : Order → Compared
+    given less = Compared.Less
+    given equal = Compared.Equal
+    given greater = Compared.Greater
+
+    back : (a : Compared) → answerOf given Compared.Refused (saidOrder a) ≡ a
+    back Compared.Less = refl
+    back Compared.Equal = refl
+    back Compared.Greater = refl
+    back (Compared.Refused why) = ap Compared.Refused (refusal-is why)
+
+-- ---- records beside an outcome
+
+pub told-known : (a b : ItemsAnswer) → told a ≡ told b → a ≡ b
+told-known a b e =
+    let o = outcome-known (a .outcome) (b .outcome) (ap (λ z. z .0) e) in
+    λ i. record { outcome = o i; items = e i .1 }
+
+pub told-power-known : (a b : ItemsWithPower) → toldPower a ≡ toldPower b → a ≡ b
+told-power-known a b e =
+    let o = outcome-known (a .outcome) (b .outcome) (ap (λ z. z .0) e) in
+    λ i. record { outcome = o i; power = e i .1 .0; items = e i .1 .1 }
+
+pub told-pauli-known : (a b : PauliAnswer) → toldPauli a ≡ toldPauli b → a ≡ b
+told-pauli-known a b e =
+    let o = outcome-known (a .outcome) (b .outcome) (ap (λ z. z .0) e) in
+    λ i. record { outcome = o i; product = record { items = e i .1 } }
+
+pub told-pauli-factor-known : (a b : PauliWithFactor) → toldPauliFactor a ≡ toldPauliFactor b → a ≡ b
+told-pauli-factor-known a b e =
+    let o = outcome-known (a .outcome) (b .outcome) (ap (λ z. z .0) e) in
+    λ i. record { outcome = o i; factor = e i .1 .0; product = record { items = e i .1 .1 } }
+
+pub told-pauli-sign-known : (a b : PauliWithSign) → toldPauliSign a ≡ toldPauliSign b → a ≡ b
+told-pauli-sign-known a b e =
+    let o = outcome-known (a .outcome) (b .outcome) (ap (λ z. z .0) e) in
+    λ i. record { outcome = o i; factor = e i .1 .0; product = record { items = e i .1 .1 } }
+
+pub told-decoherence-known : (a b : DecoherenceAnswer) → toldDecoherence a ≡ toldDecoherence b → a ≡ b
+told-decoherence-known a b e =
+    let o = outcome-known (a .outcome) (b .outcome) (ap (λ z. z .0) e) in
+    λ i. record { outcome = o i; product = record { items = e i .1 } }
+
+pub told-factor-known : (a b : DecoherenceWithFactor) → toldFactor a ≡ toldFactor b → a ≡ b
+told-factor-known a b e =
+    let o = outcome-known (a .outcome) (b .outcome) (ap (λ z. z .0) e) in
+    λ i. record { outcome = o i; factor = e i .1 .0; product = record { items = e i .1 .1 } }
+
+pub told-sign-known : (a b : DecoherenceWithSign) → toldSign a ≡ toldSign b → a ≡ b
+told-sign-known a b e =
+    let o = outcome-known (a .outcome) (b .outcome) (ap (λ z. z .0) e) in
+    λ i. record { outcome = o i; factor = e i .1 .0; product = record { items = e i .1 .1 } }
