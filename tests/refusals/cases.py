@@ -259,7 +259,7 @@ def noise():
         ("well-formed", S, S, None), ("64 terms and 64 pairs", FULL, FULL, None), ("malformed Hamiltonian", TWICE, S, 0),
         ("Hamiltonian with 0", one(ZERO), S, 0), ("malformed noise", S, TWICE, 0), ("noise with 0", S, one(ZERO), 0),
     ]:
-        case("PauliOpenSystem group", name, [45] + w + w + h, answer, ANEW)
+        case("PauliLindbladOpenSystem group", name, [45] + w + w + h, answer, BEFORE)
 
 
 def full_operators():

@@ -3,8 +3,9 @@ use crate::row_form::Row;
 use crate::row_form::old_row;
 use noise::noise_set::NoiseSet;
 use noise::pauli_noise_operator::PauliLindbladNoiseOperator;
-use open_system::PauliOpenSystem;
+use open_system::PauliLindbladOpenSystem;
 use operators::pauli_hamiltonian::PauliHamiltonian;
+use operators::pauli_operator::PauliOperator;
 use operators::term_set::TermSet;
 use rows::Delivery;
 
@@ -43,7 +44,7 @@ pub(crate) fn operator_row(set: TermSet, spins: u32, row: u64) -> RowBuffers {
     let mut re = old.re;
     let mut im = old.im;
     let d = open_system::operator_row::operator_row(
-        set,
+        PauliOperator { terms: set },
         spins,
         row,
         &mut columns,
@@ -59,7 +60,7 @@ pub(crate) fn commutator_row(set: TermSet, spins: u32, row: u64) -> RowBuffers {
     let mut re = old.re;
     let mut im = old.im;
     let d = open_system::operator_row::commutator_row(
-        set,
+        PauliOperator { terms: set },
         spins,
         row,
         &mut columns,
@@ -106,7 +107,8 @@ pub(crate) fn noise_row(set: NoiseSet, spins: u32, row: u64) -> RowBuffers {
     let mut columns = old.columns;
     let mut re = old.re;
     let mut im = old.im;
-    let d = open_system::noise_row::noise_row(set, spins, row, &mut columns, &mut re, &mut im);
+    let operator = PauliLindbladNoiseOperator { set };
+    let d = open_system::noise_row::noise_row(operator, spins, row, &mut columns, &mut re, &mut im);
     delivered(d, columns, re, im)
 }
 
@@ -115,7 +117,7 @@ pub(crate) fn open_row(h: PauliHamiltonian, n: NoiseSet, spins: u32, row: u64) -
     let mut columns = old.columns;
     let mut re = old.re;
     let mut im = old.im;
-    let s = PauliOpenSystem {
+    let s = PauliLindbladOpenSystem {
         system: h,
         noise: PauliLindbladNoiseOperator { set: n },
     };

@@ -3,41 +3,42 @@
 use Prim.Native.Nat.{ℕ, _*_, _^_, _<_}
 use mathlib.Core.Path.{_≡_, refl, sym, ap, ap₂, subst, _∙_}
 use mathlib.Core.Bool.{Bool, true, false, not, _&&_, cond}
-use mathlib.Core.List.{List, [], _∷_, _++_, map}
+use mathlib.Core.List.{List, map-map}
 use mathlib.Core.Logic.{_↔_}
 use lib.Dec.{leb}
+use Rattle.refusal.specs.Refusals.{Said, done}
 use Rattle.letters.specs.Gauss.{G}
 use Rattle.complex.proofs.FloatLaws.{clash}
 use Rattle.products.specs.Record.{reach, sameItems}
 use Rattle.products.specs.declared.items.Items.{Items}
-use Rattle.terms.specs.Keyed.{each, concatMap}
-use Rattle.operators.specs.Reals.{realTerms}
+use Rattle.terms.specs.Keyed.{each}
 use Rattle.operators.specs.Reals as reals
 use Rattle.operators.specs.declared.pauli_hamiltonian.PauliHamiltonian.{PauliHamiltonian}
-use Rattle.noise.specs.Pairs.{Key, sameKey, pairTerms, isEmpty}
+use Rattle.noise.specs.Pairs.{Key, sameKey, isEmpty}
 use Rattle.noise.specs.Pairs as pairs
 use Rattle.noise.specs.declared.noise_set.NoiseSet.{NoiseSet}
 use Rattle.noise.specs.declared.pauli_noise_operator.PauliLindbladNoiseOperator.{PauliLindbladNoiseOperator}
-use Rattle.open_system.specs.declared.PauliOpenSystem.{PauliOpenSystem}
+use Rattle.open_system.specs.declared.PauliLindbladOpenSystem.{PauliLindbladOpenSystem}
 use Rattle.open_system.specs.OpenRows.{validSystem}
 use Rattle.open_system.specs.OperatorRows.{hamiltonianTerms}
 use Rattle.superoperator.specs.Systems.{SoundTerms, onSpins, pairOnSpins}
 use Rattle.superoperator.proofs.Determined.{entries-determine}
 use Rattle.complex.specs.Wholes.{bothWhole}
-use Rattle.rows.specs.ExactRows.{exactRowOf}
-use Rattle.open_system.specs.ExactRows.{exactContributions, exactCommutatorPart, exactEntriesOf}
-use Rattle.open_system.specs.Grouping.{groupAnswer}
+use Rattle.rows.specs.Numbers.{halves}
+use Rattle.rows.specs.Placing.{rowIn}
+use Rattle.open_system.specs.ExactRows.{exactContributions, exactEntriesOf}
+use Rattle.open_system.specs.Grouping.{together, groupAnswer}
+use Rattle.exact_entries.specs.ExactEntries.{wholeHamiltonian, wholeNoise}
+use Rattle.exact_entries.proofs.RowValues.{wholeContributions, SameRows, rows-entries}
+use Rattle.exact_entries.proofs.EntryTheorems as exact_entries
 use Rattle.condition3.specs.Calls.{Call, setsAfter, callsThatSet}
-use Rattle.condition3.specs.ReferenceModel.{Line, realPart, Model, modelAfter}
-use Rattle.condition3.specs.Condition3.{Premises, SamePage, SameModel, RowsAgree, systemAfter, Condition3, Source, made, handedIn, systemOf, callsOf, Condition3HandedIn}
-use Rattle.condition3.proofs.AnswerLaws.{past}
+use Rattle.condition3.specs.ReferenceModel.{Line, Model, modelAfter}
+use Rattle.condition3.specs.Condition3.{Premises, SamePage, SameModel, RowsAgree, systemAfter, GroupAccepts, Condition3, Source, made, handedIn, systemOf, callsOf, Condition3HandedIn}
 use Rattle.condition3.proofs.ModelLaws.{Holds, holds-after}
-use Rattle.condition3.proofs.LineLaws.{linesOf}
 use Rattle.condition3.proofs.HamiltonianLines.{realLines}
-use Rattle.condition3.proofs.NoiseLines.{noiseLines, itself}
+use Rattle.condition3.proofs.NoiseLines.{noiseLines}
 use Rattle.condition3.proofs.HandedIn.{set-again}
-use Rattle.condition3.proofs.WholeLines.{wholeLines, pages-same}
-use Rattle.condition3.proofs.RowValues.{wholeContributions, rows-entries}
+use Rattle.condition3.proofs.WholeLines.{wholeLine, wholeLines, pages-same}
 use Rattle.condition3.proofs.SoundLines.{sound-hamiltonian, sound-noise, sound-fits, sound-pairs-fit}
 
 -- ---- pages with sound lines: rows, entries, terms, pages
@@ -47,18 +48,13 @@ module _ (n : ℕ) (h h′ : List (Line Items)) (w w′ : List (Line Key))
     (sw : SoundTerms sameKey (pairOnSpins n) (wholeLines w)) (sw′ : SoundTerms sameKey (pairOnSpins n) (wholeLines w′))
     (h-whole : each (λ x xs. bothWhole (x .1)) h ≡ true) (h-whole′ : each (λ x xs. bothWhole (x .1)) h′ ≡ true)
     (w-whole : each (λ x xs. bothWhole (x .1)) w ≡ true) (w-whole′ : each (λ x xs. bothWhole (x .1)) w′ ≡ true) where
-  SameRows : Type 0
-  SameRows = (r : ℕ) → r < 2 ^ n * 2 ^ n → exactRowOf (wholeContributions n r (wholeLines h) (wholeLines w)) ≡ exactRowOf (wholeContributions n r (wholeLines h′) (wholeLines w′))
-
-  pages-from-rows : SameRows → SamePage sameItems h h′ × SamePage sameKey w w′
-  unfolding SameRows
+  pages-from-rows : SameRows n (wholeLines h) (wholeLines w) (wholeLines h′) (wholeLines w′) → SamePage sameItems h h′ × SamePage sameKey w w′
   pages-from-rows e =
       let f = rows-entries n (wholeLines h) (wholeLines h′) (wholeLines w) (wholeLines w′) (sound-fits n (wholeLines h) sh) (sound-fits n (wholeLines h′) sh′) (sound-pairs-fit n (wholeLines w) sw) (sound-pairs-fit n (wholeLines w′) sw′) in
       let t = entries-determine n (wholeLines h) (wholeLines w) (wholeLines h′) (wholeLines w′) (record { hamiltonian = sh; noise = sw }) (record { hamiltonian = sh′; noise = sw′ }) .0 (f .0 e) in
       (pages-same sameItems h h′ h-whole h-whole′ .0 (t .0), pages-same sameKey w w′ w-whole w-whole′ .0 (t .1))
 
-  rows-from-pages : SamePage sameItems h h′ → SamePage sameKey w w′ → SameRows
-  unfolding SameRows
+  rows-from-pages : SamePage sameItems h h′ → SamePage sameKey w w′ → SameRows n (wholeLines h) (wholeLines w) (wholeLines h′) (wholeLines w′)
   rows-from-pages p q =
       let f = rows-entries n (wholeLines h) (wholeLines h′) (wholeLines w) (wholeLines w′) (sound-fits n (wholeLines h) sh) (sound-fits n (wholeLines h′) sh′) (sound-pairs-fit n (wholeLines w) sw) (sound-pairs-fit n (wholeLines w′) sw′) in
       f .1 (entries-determine n (wholeLines h) (wholeLines w) (wholeLines h′) (wholeLines w′) (record { hamiltonian = sh; noise = sw }) (record { hamiltonian = sh′; noise = sw′ }) .1
@@ -66,33 +62,21 @@ module _ (n : ℕ) (h h′ : List (Line Items)) (w w′ : List (Line Key))
 
 -- ---- a system after calls
 
--- results of a mapped list
-concatMap-map : {A B C : Type 0} (f : A → B) (g : B → List C) (l : List A) → concatMap g (map f l) ≡ concatMap (λ x. g (f x)) l
-unfolding concatMap
-concatMap-map f g [] = refl
-concatMap-map f g (x ∷ l) = ap (λ m. g (f x) ++ m) (concatMap-map f g l)
-
 -- the row of the lines that the reference model has
 lineRow : ℕ → Model → ℕ → List (ℕ × G)
-lineRow n m r = exactRowOf (wholeContributions n r (wholeLines (m .hamiltonian)) (wholeLines (m .noise)))
+lineRow n m r = rowIn halves false (wholeContributions n r (wholeLines (m .hamiltonian)) (wholeLines (m .noise)))
 
 -- `group` accepts valid sets
-group-accepts : (h : PauliHamiltonian) (w : PauliLindbladNoiseOperator) → reals.validSet h ≡ true → pairs.validSet (w .set) ≡ true → groupAnswer h w .1 ≡ record { system = h; noise = w }
+valid-grouped : (h : PauliHamiltonian) (w : PauliLindbladNoiseOperator) → reals.validSet h ≡ true → pairs.validSet (w .set) ≡ true → groupAnswer h w ≡ (done, together h w)
 unfolding groupAnswer
-group-accepts h w v u =
-    past P (reals.validSet h) _ _ _ _ (λ e. absurd (clash (sym v ∙ e))) (λ a.
-    past P (pairs.validSet (w .set)) _ _ _ _ (λ e. absurd (clash (sym u ∙ e))) (λ b. refl))
-  where
-    P : PauliOpenSystem → Type 0
-    P s = s ≡ record { system = h; noise = w }
+valid-grouped h w v u = rw (v, u)
 
 -- a system's contributions are those of its lines
 contributions : (n r : ℕ) (h : PauliHamiltonian) (w : NoiseSet) → exactContributions n r (hamiltonianTerms h) (pairs.heldBy w) ≡ wholeContributions n r (wholeLines (realLines h)) (wholeLines (noiseLines w))
-unfolding exactContributions wholeContributions
+unfolding wholeHamiltonian wholeNoise
 contributions n r h w =
-    ap₂ _++_
-    (concatMap-map _ (exactCommutatorPart n r) (reals.heldBy h) ∙ sym (concatMap-map _ _ (linesOf realTerms realPart (reals.heldBy h)) ∙ concatMap-map _ _ (reals.heldBy h)))
-    (sym (concatMap-map _ _ (linesOf pairTerms itself (pairs.heldBy w)) ∙ concatMap-map _ _ (pairs.heldBy w)))
+    exact_entries.contributions n r h w
+    ∙ ap₂ (wholeContributions n r) (sym (map-map wholeLine _ (reals.heldBy h))) (sym (map-map wholeLine _ (pairs.heldBy w)))
 
 module _ (calls : List Call) where
   abbrev model : Model
@@ -102,13 +86,16 @@ module _ (calls : List Call) where
   held = holds-after calls
 
   -- `group` accepts both sets
-  pub grouped : systemAfter calls ≡ record { system = setsAfter calls .hamiltonian; noise = record { set = setsAfter calls .noise } }
+  both-grouped : groupAnswer (setsAfter calls .hamiltonian) (record { set = setsAfter calls .noise }) ≡ (done, together (setsAfter calls .hamiltonian) (record { set = setsAfter calls .noise }))
+  both-grouped = valid-grouped (setsAfter calls .hamiltonian) (record { set = setsAfter calls .noise }) (held .hamiltonian-valid) (held .noise-valid)
+
+  pub grouped : systemAfter calls ≡ together (setsAfter calls .hamiltonian) (record { set = setsAfter calls .noise })
   unfolding systemAfter
-  grouped = group-accepts (setsAfter calls .hamiltonian) (record { set = setsAfter calls .noise }) (held .hamiltonian-valid) (held .noise-valid)
+  grouped = ap (λ (z : Said Unit × PauliLindbladOpenSystem). z .1) both-grouped
 
   row-of-lines : (n r : ℕ) → exactEntriesOf (systemAfter calls) n r ≡ lineRow n model r
   unfolding lineRow exactEntriesOf
-  row-of-lines n r = ap (λ s. exactEntriesOf s n r) grouped ∙ ap exactRowOf (contributions n r (setsAfter calls .hamiltonian) (setsAfter calls .noise)) ∙ ap₂ (λ h w. exactRowOf (wholeContributions n r (wholeLines h) (wholeLines w))) (held .hamiltonian) (held .noise)
+  row-of-lines n r = ap (λ s. exactEntriesOf s n r) grouped ∙ ap (rowIn halves false) (contributions n r (setsAfter calls .hamiltonian) (setsAfter calls .noise)) ∙ ap₂ (λ h w. rowIn halves false (wholeContributions n r (wholeLines h) (wholeLines w))) (held .hamiltonian) (held .noise)
 
   module _ (n : ℕ) (p : Premises n model) where
     h-sound : SoundTerms sameItems (onSpins n) (wholeLines (model .hamiltonian))
@@ -116,28 +103,32 @@ module _ (calls : List Call) where
         let e = sym (held .hamiltonian) in
         subst (λ l. SoundTerms sameItems (onSpins n) (wholeLines l)) (held .hamiltonian)
         (sound-hamiltonian n (setsAfter calls .hamiltonian) (held .hamiltonian-valid)
-        (subst (λ l. each (λ x xs. leb (reach (x .0)) n) l ≡ true) e (p .hamiltonian-sites))
+        (subst (λ l. each (λ x xs. leb (reach (x .0)) n) l ≡ true) e (p .deliverable .hamiltonian-sites))
         (subst (λ l. each (λ x xs. not (isEmpty (x .0))) l ≡ true) e (p .no-empty-product))
-        (subst (λ l. each (λ x xs. bothWhole (x .1)) l ≡ true) e (p .hamiltonian-whole)))
+        (subst (λ l. each (λ x xs. bothWhole (x .1)) l ≡ true) e (p .deliverable .hamiltonian-whole)))
 
     w-sound : SoundTerms sameKey (pairOnSpins n) (wholeLines (model .noise))
     w-sound =
         let e = sym (held .noise) in
         subst (λ l. SoundTerms sameKey (pairOnSpins n) (wholeLines l)) (held .noise)
         (sound-noise n (setsAfter calls .noise) (held .noise-valid)
-        (subst (λ l. each (λ x xs. leb (reach (x .0 .0)) n && leb (reach (x .0 .1)) n) l ≡ true) e (p .noise-sites))
-        (subst (λ l. each (λ x xs. bothWhole (x .1)) l ≡ true) e (p .noise-whole)))
+        (subst (λ l. each (λ x xs. leb (reach (x .0 .0)) n && leb (reach (x .0 .1)) n) l ≡ true) e (p .deliverable .noise-sites))
+        (subst (λ l. each (λ x xs. bothWhole (x .1)) l ≡ true) e (p .deliverable .noise-whole)))
 
 -- ---- the theorems
 
+pub group-accepts : GroupAccepts
+group-accepts calls = ap (λ (z : Said Unit × PauliLindbladOpenSystem). z .0) (both-grouped calls)
+
 pub condition-3 : Condition3
-unfolding RowsAgree lineRow SameRows
+unfolding RowsAgree lineRow
 condition-3 a b n p q = (there, back)
   where
     there : RowsAgree n (systemAfter a) (systemAfter b) → SameModel (modelAfter a) (modelAfter b)
     there e =
         let t = pages-from-rows n (modelAfter a .hamiltonian) (modelAfter b .hamiltonian) (modelAfter a .noise) (modelAfter b .noise)
-        (h-sound a n p) (h-sound b n q) (w-sound a n p) (w-sound b n q) (p .hamiltonian-whole) (q .hamiltonian-whole) (p .noise-whole) (q .noise-whole)
+        (h-sound a n p) (h-sound b n q) (w-sound a n p) (w-sound b n q)
+        (p .deliverable .hamiltonian-whole) (q .deliverable .hamiltonian-whole) (p .deliverable .noise-whole) (q .deliverable .noise-whole)
         (λ r hr. sym (row-of-lines a n r) ∙ e r hr ∙ row-of-lines b n r) in
         record { hamiltonian = t .0; noise = t .1 }
 
@@ -145,11 +136,12 @@ condition-3 a b n p q = (there, back)
     back m r hr =
         row-of-lines a n r
         ∙ rows-from-pages n (modelAfter a .hamiltonian) (modelAfter b .hamiltonian) (modelAfter a .noise) (modelAfter b .noise)
-        (h-sound a n p) (h-sound b n q) (w-sound a n p) (w-sound b n q) (p .hamiltonian-whole) (q .hamiltonian-whole) (p .noise-whole) (q .noise-whole) (m .hamiltonian) (m .noise) r hr
+        (h-sound a n p) (h-sound b n q) (w-sound a n p) (w-sound b n q)
+        (p .deliverable .hamiltonian-whole) (q .deliverable .hamiltonian-whole) (p .deliverable .noise-whole) (q .deliverable .noise-whole) (m .hamiltonian) (m .noise) r hr
         ∙ sym (row-of-lines b n r)
 
 -- both sets of a system that number 0 lets pass
-system-valid : (s : PauliOpenSystem) → validSystem s ≡ true → (reals.validSet (s .system) ≡ true) × (pairs.validSet (s .noise .set) ≡ true)
+system-valid : (s : PauliLindbladOpenSystem) → validSystem s ≡ true → (reals.validSet (s .system) ≡ true) × (pairs.validSet (s .noise .set) ≡ true)
 unfolding validSystem
 system-valid s v = go (reals.validSet (s .system)) refl v
   where
@@ -158,7 +150,7 @@ system-valid s v = go (reals.validSet (s .system)) refl v
     go false e v = absurd (clash (sym v))
 
 -- the system that a source is, as its calls make it
-source-is : (x : Source) → systemOf x ≡ systemAfter (callsOf x)
+pub source-is : (x : Source) → systemOf x ≡ systemAfter (callsOf x)
 source-is (made calls) = refl
 source-is (handedIn s v) = sym (grouped (callsThatSet (s .system) (s .noise .set)) ∙ (λ j. record { system = both j .hamiltonian; noise = record { set = both j .noise } }))
   where

@@ -1,94 +1,156 @@
--- Under the premises of condition 3 the exact row call is accepted, and gives the list that the statement compares.
+-- What the exact row call delivers, of a system made or handed in: the list that condition 3 compares, exactly where no number refuses the call.
 -- Assumes nothing.
-use Prim.Native.Nat.{ℕ, _*_, _^_, _≤_, _<_}
-use mathlib.Core.Path.{_≡_, refl, sym, ap, subst, _∙_}
-use mathlib.Core.Bool.{true, _&&_}
-use mathlib.Core.List.{List, [], _∷_, map}
+use Prim.Native.Nat.{ℕ}
+use mathlib.Core.Path.{_≡_, refl, sym, ap, ap₂, subst, _∙_}
+use mathlib.Core.Bool.{Bool, true, _&&_, and-assoc}
+use mathlib.Core.List.{List, [], _∷_, _++_, map}
 use lib.Dec.{leb}
-use borrow.Author.Tests.{le-ltb, lt-leb, leb-true}
+use borrow.Author.Tests.{le-leb, leb-true}
 use Rattle.refusal.specs.Refusals.{gives}
+use Rattle.letters.specs.Gauss.{G}
 use Rattle.letters.proofs.TestLaws.{and-true, and-left, and-right}
 use Rattle.complex.specs.Wholes.{bothWhole}
 use Rattle.products.specs.Record.{reach}
-use Rattle.products.specs.Answers.{mostSpins}
 use Rattle.products.specs.declared.items.Items.{Items}
 use Rattle.terms.specs.Keyed.{each, concatMap}
 use Rattle.terms.proofs.KeyedLaws.{each-head, each-tail}
-use Rattle.rows.specs.Calls.{outside, unlessOutside, checkedRow}
+use Rattle.rows.specs.Calls.{outside}
 use Rattle.operators.specs.Reals as reals
-use Rattle.operators.specs.declared.pauli_hamiltonian.RealTerm.{RealTerm}
 use Rattle.operators.specs.declared.pauli_hamiltonian.PauliHamiltonian.{PauliHamiltonian}
+use Rattle.noise.specs.Pairs.{Key}
 use Rattle.noise.specs.Pairs as pairs
 use Rattle.noise.specs.declared.noise_set.NoiseTerm.{NoiseTerm}
 use Rattle.noise.specs.declared.noise_set.NoiseSet.{NoiseSet}
-use Rattle.open_system.specs.declared.PauliOpenSystem.{PauliOpenSystem}
+use Rattle.open_system.specs.declared.PauliLindbladOpenSystem.{PauliLindbladOpenSystem}
 use Rattle.open_system.specs.OperatorRows.{hamiltonianTerms}
 use Rattle.open_system.specs.NoiseRows as noise_rows
-use Rattle.open_system.specs.OpenRows.{validSystem, itemsOf}
-use Rattle.open_system.specs.ExactRows.{wholeTerms, unlessNotWhole, exactRowOfTerms, exactRow, exactEntriesOf}
-use Rattle.open_system.proofs.OutsideLaws.{outside-none, first-inside, outside-past}
-use Rattle.condition3.specs.ReferenceModel.{realPart, modelAfter}
-use Rattle.condition3.specs.Calls.{setsAfter}
-use Rattle.condition3.specs.Condition3.{RowsDelivered}
+use Rattle.open_system.specs.OpenRows.{itemsOf}
+use Rattle.open_system.specs.ExactRows.{wholeTerms}
+use Rattle.open_system.proofs.OutsideLaws.{outside-none, first-inside, reach-below, rest-inside}
+use Rattle.exact_entries.proofs.PassedLaws.{products, passed, gives-row}
+use Rattle.condition3.specs.ReferenceModel.{Line, realPart, Model, modelAfter}
+use Rattle.condition3.specs.Calls.{Call, setsAfter}
+use Rattle.condition3.specs.Condition3.{callsOf, RowDelivered, RowsDelivered}
 use Rattle.condition3.proofs.ModelLaws.{Holds, holds-after}
+use Rattle.condition3.proofs.HamiltonianLines.{realLines}
+use Rattle.condition3.proofs.NoiseLines.{noiseLines}
 use Rattle.condition3.proofs.SoundLines.{each-map}
-use Rattle.condition3.proofs.Condition3Theorem.{grouped}
+use Rattle.condition3.proofs.Condition3Theorem.{grouped, source-is}
 
--- ---- no product has a site at n or above
+-- ---- 8: no product has a site at n or above
 
-products-inside : (n : ℕ) (l : List RealTerm) → each (λ t ts. leb (reach (t .items)) n) l ≡ true → outside n (map (λ t. t .items) (map reals.complexTerm l)) ≡ []
-products-inside n [] e = outside-none n
-products-inside n (t ∷ l) e =
-    first-inside n (t .items) _ refl (leb-true (reach (t .items)) n (each-head (λ t ts. leb (reach (t .items)) n) t l e))
-    ∙ products-inside n l (each-tail (λ t ts. leb (reach (t .items)) n) t l e)
+-- the test of each product
+abbrev inside : ℕ → List Items → Bool
+inside n ps = each (λ p qs. leb (reach p) n) ps
 
-sides-inside : (n : ℕ) (l : List NoiseTerm) → each (λ t ts. leb (reach (t .left)) n && leb (reach (t .right)) n) l ≡ true → outside n (noise_rows.itemsOf l) ≡ []
-unfolding noise_rows.itemsOf concatMap
-sides-inside n [] e = outside-none n
-sides-inside n (t ∷ l) e =
-    let h = each-head (λ t ts. leb (reach (t .left)) n && leb (reach (t .right)) n) t l e in
-    first-inside n (t .left) _ refl (leb-true (reach (t .left)) n (and-left (leb (reach (t .left)) n) (leb (reach (t .right)) n) h))
-    ∙ first-inside n (t .right) _ refl (leb-true (reach (t .right)) n (and-right (leb (reach (t .left)) n) (leb (reach (t .right)) n) h))
-    ∙ sides-inside n l (each-tail (λ t ts. leb (reach (t .left)) n && leb (reach (t .right)) n) t l e)
+none-outside : (n : ℕ) (ps : List Items) → inside n ps ≡ true → outside n ps ≡ []
+none-outside n [] e = outside-none n
+none-outside n (p ∷ ps) e =
+    first-inside n p ps refl (leb-true (reach p) n (each-head (λ p qs. leb (reach p) n) p ps e)) ∙ none-outside n ps (each-tail (λ p qs. leb (reach p) n) p ps e)
 
--- ---- a system that no number refuses
+all-inside : (n : ℕ) (ps : List Items) → outside n ps ≡ [] → inside n ps ≡ true
+unfolding each
+all-inside n [] e = refl
+all-inside n (p ∷ ps) e = and-true (le-leb (reach p) n (reach-below n p ps e)) (all-inside n ps (rest-inside n p ps e))
 
-module _ (n r : ℕ) (s : PauliOpenSystem) (hv : reals.validSet (s .system) ≡ true) (wv : pairs.validSet (s .noise .set) ≡ true) (few : n ≤ mostSpins) (below : r < 2 ^ n * 2 ^ n) where
-  abbrev items : List Items
-  items = itemsOf (hamiltonianTerms (s .system)) (pairs.heldBy (s .noise .set))
+-- of two lists, and of the sides of noise terms
+inside-both : (n : ℕ) (a b : List Items) → inside n (a ++ b) ≡ (inside n a && inside n b)
+unfolding each
+inside-both n [] b = refl
+inside-both n (p ∷ a) b = ap (λ t. leb (reach p) n && t) (inside-both n a b) ∙ sym (and-assoc (leb (reach p) n) (inside n a) (inside n b))
 
-  accepted : outside n items ≡ [] → wholeTerms (hamiltonianTerms (s .system)) (pairs.heldBy (s .noise .set)) ≡ true → exactRow s n r ≡ gives (exactEntriesOf s n r)
-  unfolding exactRow validSystem exactRowOfTerms exactEntriesOf checkedRow unlessOutside unlessNotWhole
-  accepted o w = rw (hv, wv, le-ltb mostSpins n few, lt-leb (2 ^ n * 2 ^ n) r below, o, w) refl
+inside-sides : (n : ℕ) (l : List NoiseTerm) → inside n (noise_rows.itemsOf l) ≡ each (λ t ts. leb (reach (t .left)) n && leb (reach (t .right)) n) l
+unfolding each noise_rows.itemsOf concatMap
+inside-sides n [] = refl
+inside-sides n (t ∷ l) =
+    ap (λ b. leb (reach (t .left)) n && (leb (reach (t .right)) n && b)) (inside-sides n l)
+    ∙ sym (and-assoc (leb (reach (t .left)) n) (leb (reach (t .right)) n) (each (λ t ts. leb (reach (t .left)) n && leb (reach (t .right)) n) l))
+
+-- ---- the tests of a system's terms are those of its lines
+
+abbrev sitesBelow : ℕ → List (Line Items) → Bool
+sitesBelow n l = each (λ x xs. leb (reach (x .0)) n) l
+
+abbrev pairSitesBelow : ℕ → List (Line Key) → Bool
+pairSitesBelow n l = each (λ x xs. leb (reach (x .0 .0)) n && leb (reach (x .0 .1)) n) l
+
+abbrev partsWhole : {K : Type 0} → List (Line K) → Bool
+partsWhole l = each (λ x xs. bothWhole (x .1)) l
+
+module _ (h : PauliHamiltonian) (w : NoiseSet) where
+  inside-lines : (n : ℕ) → inside n (itemsOf (hamiltonianTerms h) (pairs.heldBy w)) ≡ (sitesBelow n (realLines h) && pairSitesBelow n (noiseLines w))
+  inside-lines n =
+      inside-both n (map (λ t. t .items) (hamiltonianTerms h)) (noise_rows.itemsOf (pairs.heldBy w))
+      ∙ ap₂ _&&_
+      (each-map _ (λ t ts. leb (reach (t .items)) n) (λ p qs. leb (reach p) n) (λ t ts. refl) (hamiltonianTerms h)
+      ∙ each-map reals.complexTerm (λ t ts. leb (reach (t .items)) n) (λ t ts. leb (reach (t .items)) n) (λ t ts. refl) (reals.heldBy h)
+      ∙ sym (each-map _ (λ t ts. leb (reach (t .items)) n) (λ x xs. leb (reach (x .0)) n) (λ t ts. refl) (reals.heldBy h)))
+      (inside-sides n (pairs.heldBy w)
+      ∙ sym (each-map _ (λ t ts. leb (reach (t .left)) n && leb (reach (t .right)) n)
+      (λ x xs. leb (reach (x .0 .0)) n && leb (reach (x .0 .1)) n) (λ t ts. refl) (pairs.heldBy w)))
+
+  whole-lines : wholeTerms (hamiltonianTerms h) (pairs.heldBy w) ≡ (partsWhole (realLines h) && partsWhole (noiseLines w))
+  unfolding wholeTerms
+  whole-lines =
+      ap₂ _&&_
+      (each-map reals.complexTerm (λ t ts. bothWhole (realPart (t .coefficient))) (λ t ts. bothWhole (t .coefficient)) (λ t ts. refl) (reals.heldBy h)
+      ∙ sym (each-map _ (λ t ts. bothWhole (realPart (t .coefficient))) (λ x xs. bothWhole (x .1)) (λ t ts. refl) (reals.heldBy h)))
+      (sym (each-map _ (λ t ts. bothWhole (t .coefficient)) (λ x xs. bothWhole (x .1)) (λ t ts. refl) (pairs.heldBy w)))
+
+-- ---- the system that a list of calls makes
+
+module _ (calls : List Call) (n r : ℕ) where
+  held : Holds (setsAfter calls) (modelAfter calls)
+  held = holds-after calls
+
+  abbrev h : PauliHamiltonian
+  h = setsAfter calls .hamiltonian
+
+  abbrev w : NoiseSet
+  w = setsAfter calls .noise
+
+  abbrev s : PauliLindbladOpenSystem
+  s = record { system = h; noise = record { set = w } }
+
+  abbrev m : Model
+  m = modelAfter calls
+
+  abbrev wholes : Bool
+  wholes = wholeTerms (hamiltonianTerms h) (pairs.heldBy w)
+
+  sites-tested : inside n (products s) ≡ (sitesBelow n (m .hamiltonian) && pairSitesBelow n (m .noise))
+  sites-tested = inside-lines h w n ∙ ap₂ (λ a b. sitesBelow n a && pairSitesBelow n b) (held .hamiltonian) (held .noise)
+
+  parts-tested : wholes ≡ (partsWhole (m .hamiltonian) && partsWhole (m .noise))
+  parts-tested = whole-lines h w ∙ ap₂ (λ a b. partsWhole a && partsWhole b) (held .hamiltonian) (held .noise)
+
+  made-delivered : (l : List (ℕ × G)) → RowDelivered m s n r l
+  made-delivered l = (
+    λ p.
+        gives-row s n r
+        (record {
+          hamiltonian = held .hamiltonian-valid;
+          noise = held .noise-valid;
+          few = p .0 .spins;
+          inside = none-outside n (products s) (sites-tested ∙ and-true (p .0 .hamiltonian-sites) (p .0 .noise-sites));
+          whole = parts-tested ∙ and-true (p .0 .hamiltonian-whole) (p .0 .noise-whole);
+        }) (p .1)
+        ∙ ap gives (sym (p .2)),
+    λ e.
+        let t = passed s n r l e in
+        let sites = sym sites-tested ∙ all-inside n (products s) (t .0 .inside) in
+        let parts = sym parts-tested ∙ t .0 .whole in (
+          record {
+            spins = t .0 .few;
+            hamiltonian-sites = and-left (sitesBelow n (m .hamiltonian)) (pairSitesBelow n (m .noise)) sites;
+            noise-sites = and-right (sitesBelow n (m .hamiltonian)) (pairSitesBelow n (m .noise)) sites;
+            hamiltonian-whole = and-left (partsWhole (m .hamiltonian)) (partsWhole (m .noise)) parts;
+            noise-whole = and-right (partsWhole (m .hamiltonian)) (partsWhole (m .noise)) parts;
+          },
+          t .1 .0,
+          sym (t .1 .1),
+        ),
+  )
 
 pub rows-delivered : RowsDelivered
-rows-delivered calls n r p below =
-    subst (λ s. exactRow s n r ≡ gives (exactEntriesOf s n r)) (sym (grouped calls))
-    (accepted n r (record { system = h; noise = record { set = w } }) (held .hamiltonian-valid) (held .noise-valid) (p .spins) below
-    (outside-past n _ (noise_rows.itemsOf (pairs.heldBy w)) (products-inside n (reals.heldBy h) sites-h) ∙ sides-inside n (pairs.heldBy w) sites-w)
-    (unfold wholeTerms in and-true whole-h whole-w))
-  where
-    h : PauliHamiltonian
-    h = setsAfter calls .hamiltonian
-
-    w : NoiseSet
-    w = setsAfter calls .noise
-
-    held : Holds (setsAfter calls) (modelAfter calls)
-    held = holds-after calls
-
-    sites-h : each (λ t ts. leb (reach (t .items)) n) (reals.heldBy h) ≡ true
-    sites-h = sym (each-map _ (λ t ts. leb (reach (t .items)) n) (λ x xs. leb (reach (x .0)) n) (λ t ts. refl) (reals.heldBy h)) ∙ ap (each (λ x xs. leb (reach (x .0)) n)) (held .hamiltonian) ∙ p .hamiltonian-sites
-
-    sites-w : each (λ t ts. leb (reach (t .left)) n && leb (reach (t .right)) n) (pairs.heldBy w) ≡ true
-    sites-w = sym (each-map _ (λ t ts. leb (reach (t .left)) n && leb (reach (t .right)) n) (λ x xs. leb (reach (x .0 .0)) n && leb (reach (x .0 .1)) n) (λ t ts. refl) (pairs.heldBy w)) ∙ ap (each (λ x xs. leb (reach (x .0 .0)) n && leb (reach (x .0 .1)) n)) (held .noise) ∙ p .noise-sites
-
-    whole-h : each (λ t ts. bothWhole (t .coefficient)) (hamiltonianTerms h) ≡ true
-    whole-h =
-        each-map reals.complexTerm (λ t ts. bothWhole (realPart (t .coefficient))) (λ t ts. bothWhole (t .coefficient)) (λ t ts. refl) (reals.heldBy h)
-        ∙ sym (each-map _ (λ t ts. bothWhole (realPart (t .coefficient))) (λ x xs. bothWhole (x .1)) (λ t ts. refl) (reals.heldBy h))
-        ∙ ap (each (λ x xs. bothWhole (x .1))) (held .hamiltonian)
-        ∙ p .hamiltonian-whole
-
-    whole-w : each (λ t ts. bothWhole (t .coefficient)) (pairs.heldBy w) ≡ true
-    whole-w = sym (each-map _ (λ t ts. bothWhole (t .coefficient)) (λ x xs. bothWhole (x .1)) (λ t ts. refl) (pairs.heldBy w)) ∙ ap (each (λ x xs. bothWhole (x .1))) (held .noise) ∙ p .noise-whole
+rows-delivered x n r l = subst (λ s. RowDelivered (modelAfter (callsOf x)) s n r l) (sym (source-is x ∙ grouped (callsOf x))) (made-delivered (callsOf x) n r l)

@@ -7,7 +7,8 @@ pub mod NoiseLines
 pub mod ModelLaws
 pub mod HandedIn
 pub mod WholeLines
-pub mod RowValues
 pub mod SoundLines
 pub mod Condition3Theorem
 pub mod Delivered
+pub mod PremisesMet
+pub mod WorkedRows

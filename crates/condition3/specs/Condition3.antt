@@ -1,6 +1,6 @@
 -- Condition 3: for any two lists of calls, the exact rows of the two systems agree at every row exactly when the plain book ends the same for
 -- both. Document 01, `The book for condition 3`. Here are the statements; their proofs are `condition-3` and `condition-3-handed-in` in
--- proofs/Condition3Theorem.
+-- proofs/Condition3Theorem and `rows-delivered` in proofs/Delivered.
 use Prim.Native.Nat.{ℕ, _*_, _^_, _≤_, _<_}
 use mathlib.Core.Path.{_≡_}
 use mathlib.Core.Bool.{Bool, true, not, _&&_}
@@ -8,14 +8,15 @@ use mathlib.Core.List.{List}
 use mathlib.Core.Logic.{_↔_}
 use lib.Dec.{leb}
 use lib.Ieee.{eq}
-use Rattle.refusal.specs.Refusals.{gives}
+use Rattle.refusal.specs.Refusals.{gives, done}
+use Rattle.letters.specs.Gauss.{G}
 use Rattle.complex.specs.declared.Complex.{Complex}
 use Rattle.complex.specs.Wholes.{bothWhole}
 use Rattle.products.specs.Record.{reach, sameItems}
 use Rattle.products.specs.Answers.{mostSpins}
 use Rattle.terms.specs.Keyed.{has, each}
 use Rattle.noise.specs.Pairs.{sameKey, isEmpty}
-use Rattle.open_system.specs.declared.PauliOpenSystem.{PauliOpenSystem}
+use Rattle.open_system.specs.declared.PauliLindbladOpenSystem.{PauliLindbladOpenSystem}
 use Rattle.open_system.specs.OpenRows.{validSystem}
 use Rattle.open_system.specs.ExactRows.{exactRow, exactEntriesOf}
 use Rattle.open_system.specs.Grouping.{groupAnswer}
@@ -24,13 +25,17 @@ use Rattle.condition3.specs.ReferenceModel.{Line, onLine, Model, modelAf
 
 -- ---- the premises, said of the lines that a system holds: "What a system holds is the lines of its book"
 
--- n is "up to 31" and "above every site held"; the parts are "whole" and of at most 2^40; "no Hamiltonian term on the empty product"
-pub record Premises (n : ℕ) (m : Model) : Type 0 where
+-- what numbers 7, 8 and 11 let pass: n is at most 31, every site held is below n, every part is whole and of at most 2^40
+pub record Deliverable (n : ℕ) (m : Model) : Type 0 where
   pub spins : n ≤ mostSpins
   pub hamiltonian-sites : each (λ x xs. leb (reach (x .0)) n) (m .hamiltonian) ≡ true
   pub noise-sites : each (λ x xs. leb (reach (x .0 .0)) n && leb (reach (x .0 .1)) n) (m .noise) ≡ true
   pub hamiltonian-whole : each (λ x xs. bothWhole (x .1)) (m .hamiltonian) ≡ true
   pub noise-whole : each (λ x xs. bothWhole (x .1)) (m .noise) ≡ true
+
+-- and no Hamiltonian term is on the empty product, which commutes with everything
+pub record Premises (n : ℕ) (m : Model) : Type 0 where
+  pub deliverable : Deliverable n m
   pub no-empty-product : each (λ x xs. not (isEmpty (x .0))) (m .hamiltonian) ≡ true
 
 -- ---- the same pages
@@ -56,12 +61,16 @@ pub record SameModel (a b : Model) : Type 0 where
 
 -- "Exact rows agree at a row when the sums above give both systems the same columns with the same two parts in each"; "Every row means 0 to
 -- d·d - 1"
-unfoldable pub RowsAgree : ℕ → PauliOpenSystem → PauliOpenSystem → Type 0
+unfoldable pub RowsAgree : ℕ → PauliLindbladOpenSystem → PauliLindbladOpenSystem → Type 0
 RowsAgree n s t = (r : ℕ) → r < 2 ^ n * 2 ^ n → exactEntriesOf s n r ≡ exactEntriesOf t n r
 
 -- "`group` then makes the system"
-unfoldable pub systemAfter : List Call → PauliOpenSystem
+unfoldable pub systemAfter : List Call → PauliLindbladOpenSystem
 systemAfter calls = groupAnswer (setsAfter calls .hamiltonian) (record { set = setsAfter calls .noise }) .1
+
+-- and no list makes it refuse
+abbrev pub GroupAccepts : Type 0
+GroupAccepts = (calls : List Call) → groupAnswer (setsAfter calls .hamiltonian) (record { set = setsAfter calls .noise }) .0 ≡ done
 
 -- ---- one claim about two whole lists
 
@@ -70,20 +79,14 @@ Condition3 =
     (a b : List Call) (n : ℕ) → Premises n (modelAfter a) → Premises n (modelAfter b)
     → RowsAgree n (systemAfter a) (systemAfter b) ↔ SameModel (modelAfter a) (modelAfter b)
 
--- "this is what the exact row call delivers wherever the buffers hold it"
-abbrev pub RowsDelivered : Type 0
-RowsDelivered =
-    (a : List Call) (n r : ℕ) → Premises n (modelAfter a) → r < 2 ^ n * 2 ^ n
-    → exactRow (systemAfter a) n r ≡ gives (exactEntriesOf (systemAfter a) n r)
-
 -- ---- the same where either system is handed in
 
 -- a system: made by calls, or handed in and let pass by number 0
 pub data Source : Type 0 where
   made : List Call → Source
-  handedIn : (s : PauliOpenSystem) → validSystem s ≡ true → Source
+  handedIn : (s : PauliLindbladOpenSystem) → validSystem s ≡ true → Source
 
-abbrev pub systemOf : Source → PauliOpenSystem
+abbrev pub systemOf : Source → PauliLindbladOpenSystem
 systemOf (made calls) = systemAfter calls
 systemOf (handedIn s v) = s
 
@@ -96,3 +99,14 @@ abbrev pub Condition3HandedIn : Type 0
 Condition3HandedIn =
     (x y : Source) (n : ℕ) → Premises n (modelAfter (callsOf x)) → Premises n (modelAfter (callsOf y))
     → RowsAgree n (systemOf x) (systemOf y) ↔ SameModel (modelAfter (callsOf x)) (modelAfter (callsOf y))
+
+-- ---- what the call delivers
+
+-- row r of the system s, which holds the lines of m: the exact row call gives l exactly if numbers 7, 8 and 11 and, for the row, 9 let it pass
+-- and l is the list that is compared
+abbrev pub RowDelivered : Model → PauliLindbladOpenSystem → ℕ → ℕ → List (ℕ × G) → Type 0
+RowDelivered m s n r l = (Deliverable n m × (r < 2 ^ n * 2 ^ n) × (l ≡ exactEntriesOf s n r)) ↔ (exactRow s n r ≡ gives l)
+
+-- "this is what the exact row call delivers wherever the buffers hold it"
+abbrev pub RowsDelivered : Type 0
+RowsDelivered = (x : Source) (n r : ℕ) (l : List (ℕ × G)) → RowDelivered (modelAfter (callsOf x)) (systemOf x) n r l

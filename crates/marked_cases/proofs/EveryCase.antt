@@ -19,10 +19,9 @@ use Rattle.terms.specs.Places.{goodTerm, validPlaces}
 use Rattle.rows.specs.Equation.{δ, 𝟚, commutator, adjointProduct, dissipator}
 use Rattle.rows.specs.Numbers.{minusHalfUnit}
 use Rattle.rows.specs.Contributions.{operatorTerms, commutatorTerms, noiseTerms}
-use Rattle.rows.specs.Placing.{placed, placeAll, rowOf, nonzero}
+use Rattle.rows.specs.Placing.{placed, placeAll, rowOf, nonzero, keptBy, rowIn}
 use Rattle.rows.specs.Sorting.{upTo}
 use Rattle.rows.specs.Sums.{valueAt}
-use Rattle.rows.specs.Buffers.{keptBy, floatRow}
 use Rattle.rows.specs.Calls.{outside, unlessOutside, checkedRow}
 use Rattle.operators.specs.Reals as reals
 use Rattle.open_system.specs.OperatorRows.{commutatorContributions, commutatorRowOf, hamiltonianCommutatorRow}
@@ -40,7 +39,7 @@ unfolding outcome table
     emptyProduct setAnswer multiplyAnswer conjugateAnswer convertAnswer rowAnswer
     andThen compareNumbers compareLists pairs keyOf compareItems compareAnswer
     δ 𝟚 commutator adjointProduct dissipator minusHalfUnit operatorTerms commutatorTerms noiseTerms
-    placed placeAll rowOf nonzero upTo valueAt keptBy floatRow outside unlessOutside checkedRow
+    placed placeAll rowOf nonzero upTo valueAt keptBy rowIn outside unlessOutside checkedRow
     has each concatMap goodTerm validPlaces reals.filled reals.isBlank reals.validSet noise.filled noise.isBlank noise.validSet
     commutatorContributions commutatorRowOf hamiltonianCommutatorRow itemsOf noiseContributions noiseRow
 every-case = refl

@@ -2,6 +2,7 @@
 -- matrices say. Document 01: "The ● cases form one table of inputs and outcomes, proved together from the matrix definitions and, for setting
 -- and `cmp`, from the rules above."
 use Prim.Native.Nat.{ℕ, _*_, _/_, _%_, _^_}
+use mathlib.Core.Bool.{true, false}
 use mathlib.Core.List.{List, [], _∷_, map}
 use lib.IntN.{ℤ, pos}
 use lib.Ieee.{Float, binary64, ofInt}
@@ -12,7 +13,7 @@ use Rattle.letters.specs.Gauss.{G, 𝟘, 𝟙, _⊗_}
 use Rattle.letters.specs.Sums.{Σ}
 use Rattle.letters.specs.Matrices.{pauli, decoherence, lettersOf, matrix, adjoint}
 use Rattle.letters.specs.Matrices as two-by-two
-use Rattle.letters.specs.Answers.{other, multiplyLetters, asComplex, asSign}
+use Rattle.letters.specs.Answers.{other, inFloats, multiplyLetters, asComplex, asSign}
 use Rattle.letters.specs.declared.Kind.{Kind}
 use Rattle.letters.specs.declared.Kind.the-variants.{Pauli, Decoherence}
 use Rattle.products.specs.Record.{letterAt}
@@ -23,7 +24,7 @@ use Rattle.products.specs.declared.items.Items.{Items}
 use Rattle.rows.specs.Equation.{𝟚, commutator, dissipator}
 use Rattle.rows.specs.Numbers.{halves}
 use Rattle.rows.specs.Contributions.{operatorTerms, commutatorTerms, noiseTerms}
-use Rattle.rows.specs.Placing.{rowOf, nonzero}
+use Rattle.rows.specs.Placing.{rowIn}
 use Rattle.rows.specs.Sorting.{upTo}
 use Rattle.operators.specs.Reals.{complexOf}
 use Rattle.operators.specs.Reals as reals
@@ -63,7 +64,7 @@ pub data Outcome : Type 0 where
 
 -- a whole number as two f64
 abbrev pub f64 : G → Complex
-f64 z = record { re = ofInt binary64 (z .re); im = ofInt binary64 (z .im) }
+f64 z = inFloats z
 
 -- the entries of a d by d matrix, row by row
 abbrev pub entriesOf : ℕ → (ℕ → ℕ → G) → List G
@@ -109,15 +110,15 @@ outcome (cmp kind p q) = order (compareAnswer kind p q)
 outcome (productRow n r p) =
     row
     (alike (oneEntry (asComplex (rowAnswer decoherence p n r))))
-    (rowOf (halves .sum) (operatorTerms halves n decoherence r (letterAt p) 𝟙))
+    (rowIn halves true (operatorTerms halves n decoherence r (letterAt p) 𝟙))
     (map (λ c. 𝟚 ⊗ matrix decoherence n (letterAt p) r c) (upTo (2 ^ n)))
 outcome (noiseRow n r p q z) =
     let d = 2 ^ n in
     let f = letterAt p in
     let g = letterAt q in
     row
-    (alike (noise.noiseRow (pairs.filled (pairs.pairOf (p, q) (f64 z) ∷ [])) n r))
-    (rowOf (halves .sum) (noiseTerms halves n (r / d) (r % d) f g z))
+    (alike (noise.noiseRow (record { set = pairs.filled (pairs.pairOf (p, q) (f64 z) ∷ []) }) n r))
+    (rowIn halves true (noiseTerms halves n (r / d) (r % d) f g z))
     (map (λ c. z ⊗ dissipator n f g (r / d) (r % d) (c / d) (c % d)) (upTo (d * d)))
 outcome (commutatorRow n r p x) =
     let d = 2 ^ n in
@@ -125,5 +126,5 @@ outcome (commutatorRow n r p x) =
     let z : G = record { re = x; im = pos 0 } in
     row
     (alike (hamiltonianCommutatorRow (reals.filled (reals.realOf p (ofInt binary64 x) ∷ [])) n r))
-    (nonzero (halves .isZero) (rowOf (halves .sum) (commutatorTerms halves n (r / d) (r % d) f z)))
+    (rowIn halves false (commutatorTerms halves n (r / d) (r % d) f z))
     (map (λ c. z ⊗ commutator n f (r / d) (r % d) (c / d) (c % d)) (upTo (d * d)))

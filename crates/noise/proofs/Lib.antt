@@ -5,3 +5,4 @@ pub mod FullLaws
 pub mod RemapLaws
 pub mod NoiseTheorems
 pub mod NoiseValidAnswers
+pub mod ReadingLaws

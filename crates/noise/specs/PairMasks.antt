@@ -1,5 +1,5 @@
 -- What judging a noise set hands out: whether number 0 lets it pass, and if so its count and each term's masks and coefficient.
--- Only helpers of the rows cite it.
+-- `is_valid` and helpers of the rows cite it.
 use mathlib.Core.Bool.{true, false, cond}
 use mathlib.Core.List.{[], map}
 use Rattle.complex.specs.Complex.{plusZero}

@@ -3,6 +3,7 @@ ghost use mathlib.Core.Path.{_≡_};
 ghost use Prim.Native.Nat.{_≤_};
 ghost use Rattle.refusal.specs.Refusals.{gives};
 ghost use Rattle.terms.specs.Runs.{addOn};
+ghost use Rattle.terms.specs.Setting.{mostTerms};
 ghost use Rattle.operators.specs.Complexes.{heldBy as termsOf};
 ghost use Rattle.noise.specs.Pairs.{pairTerms, heldBy, filled};
 ghost use Rattle.noise.specs.Answers.{told, addFullOperators};
@@ -14,6 +15,7 @@ use crate::noise_set::NoiseSetAnswer;
 use crate::noise_set::empty_side;
 use crate::noise_set::is_valid;
 use complex::Complex;
+use operators::decoherence_operator::DecoherenceOperator;
 use operators::term_set::Term;
 use operators::term_set::TermSet;
 use refusal::Outcome;
@@ -36,7 +38,7 @@ fn add_pair(c: NoiseSetAnswer, x: Term, y: Term, value: Complex) -> NoiseSetAnsw
 
 // A left term with all right terms, in their order.
 fn add_row(c: NoiseSetAnswer, x: Term, t: TermSet, value: Complex) -> NoiseSetAnswer
-    requires { ⌜ Chain c × (t .count ≤ 64) ⌝ }
+    requires { ⌜ Chain c × (t .count ≤ mostTerms) ⌝ }
     ensures { λ r. ⌜ ((o : State) → Stands c o → Stands r (fullRow value (termsOf t) x o)) ⌝ }
 {
     let n = t.count;
@@ -52,7 +54,7 @@ fn add_row(c: NoiseSetAnswer, x: Term, t: TermSet, value: Complex) -> NoiseSetAn
 
 // All left terms with all right terms, added to a set's own terms.
 fn add_rows(s: NoiseSet, l: TermSet, t: TermSet, value: Complex) -> NoiseSetAnswer
-    requires { ⌜ (s ≡ filled (heldBy s)) × ((l .count ≤ 64) × (t .count ≤ 64)) ⌝ }
+    requires { ⌜ (s ≡ filled (heldBy s)) × ((l .count ≤ mostTerms) × (t .count ≤ mostTerms)) ⌝ }
     ensures { λ r. ⌜ Stands r (fullRows value (termsOf l) (termsOf t) (gives (heldBy s))) ⌝ }
 {
     let n = l.count;
@@ -70,34 +72,41 @@ fn add_rows(s: NoiseSet, l: TermSet, t: TermSet, value: Complex) -> NoiseSetAnsw
 }
 
 // The pairs of two operators' terms, added to a noise set.
-pub fn add_full(s: NoiseSet, left: TermSet, right: TermSet, value: Complex) -> NoiseSetAnswer
-    ensures { λ r. ⌜ told r ≡ addFullOperators s left right value ⌝ }
+pub(crate) fn add_full(
+    s: NoiseSet,
+    left: DecoherenceOperator,
+    right: DecoherenceOperator,
+    value: Complex,
+) -> NoiseSetAnswer
+    ensures { λ r. ⌜ told r ≡ addFullOperators s (left .terms) (right .terms) value ⌝ }
 {
+    let l = left.terms;
+    let t = right.terms;
     if !is_valid(s) {
         return NoiseSetAnswer {
             outcome: Outcome::Refused(Refusal::Malformed),
             set: s,
         };
     }
-    if !operators::term_set::is_valid(false, left) {
+    if !left.is_valid() {
         return NoiseSetAnswer {
             outcome: Outcome::Refused(Refusal::Malformed),
             set: s,
         };
     }
-    if !operators::term_set::is_valid(false, right) {
+    if !right.is_valid() {
         return NoiseSetAnswer {
             outcome: Outcome::Refused(Refusal::Malformed),
             set: s,
         };
     }
-    if left.count == 0 {
+    if l.count == 0 {
         return NoiseSetAnswer {
             outcome: Outcome::Refused(Refusal::EmptySide),
             set: s,
         };
     }
-    if right.count == 0 {
+    if t.count == 0 {
         return NoiseSetAnswer {
             outcome: Outcome::Refused(Refusal::EmptySide),
             set: s,
@@ -109,5 +118,5 @@ pub fn add_full(s: NoiseSet, left: TermSet, right: TermSet, value: Complex) -> N
             set: s,
         };
     }
-    finished(add_rows(s, left, right, value), s)
+    finished(add_rows(s, l, t, value), s)
 }

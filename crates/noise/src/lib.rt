@@ -1,8 +1,8 @@
 // Noise sets: pairs of decoherence products with complex coefficients.
 mod chain;
-pub mod full;
+mod full;
 pub mod noise_set;
 mod numbers;
 pub mod pauli_noise_operator;
-pub mod remap;
+mod remap;
 pub mod valid_pairs;

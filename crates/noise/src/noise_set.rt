@@ -6,7 +6,7 @@ ghost use lib.ListN.{drop};
 ghost use mathlib.Core.List.{[], map};
 ghost use Rattle.refusal.specs.Refusals.{gives};
 ghost use Rattle.terms.specs.Keyed.{firstAt, held, omitted};
-ghost use Rattle.terms.specs.Setting.{keyed, coefficientAt, write, hasRoom};
+ghost use Rattle.terms.specs.Setting.{mostTerms, keyed, coefficientAt, write, hasRoom};
 ghost use Rattle.operators.specs.Answers.{saidGet, saidSet};
 ghost use Rattle.noise.specs.Pairs.{pairTerms, blank, heldBy, filled, validSet};
 ghost use Rattle.noise.specs.Answers.{validKey, emptySide, toldSet, told, getPair, setPair, addPair};
@@ -17,6 +17,7 @@ use operators::term_set::SetAnswer;
 use products::items::Items;
 use refusal::Outcome;
 use refusal::Refusal;
+use terms::MOST_TERMS;
 
 pub struct NoiseTerm {
     pub left: Items,
@@ -26,7 +27,7 @@ pub struct NoiseTerm {
 
 pub struct NoiseSet {
     pub count: usize,
-    pub terms: [NoiseTerm; 64],
+    pub terms: [NoiseTerm; MOST_TERMS],
 }
 
 pub struct NoiseSetAfterSet {
@@ -56,7 +57,7 @@ pub fn empty_set() -> NoiseSet
 {
     NoiseSet {
         count: 0,
-        terms: [blank_term(); 64],
+        terms: [blank_term(); MOST_TERMS],
     }
 }
 
@@ -74,7 +75,7 @@ fn has_key(t: NoiseTerm, left: Items, right: Items) -> bool
 
 // The place of the first term with a key, from a place on; the count where there is none.
 fn find_from(s: NoiseSet, from: usize, left: Items, right: Items) -> usize
-    requires { ⌜ (s .count ≤ 64) × (from ≤ s .count) ⌝ }
+    requires { ⌜ (s .count ≤ mostTerms) × (from ≤ s .count) ⌝ }
     ensures { λ r. ⌜ r ≡ from + firstAt (keyed pairTerms (left, right)) (drop from (heldBy s)) ⌝ }
 {
     let n = s.count;
@@ -139,7 +140,7 @@ pub(crate) fn put(s: NoiseSet, left: Items, right: Items, value: Complex) -> Wri
         };
         return Written { room: true, set: r };
     }
-    if 64 <= n {
+    if MOST_TERMS <= n {
         return Written {
             room: false,
             set: s,
@@ -156,7 +157,7 @@ pub(crate) fn put(s: NoiseSet, left: Items, right: Items, value: Complex) -> Wri
 
 // The coefficient under a key, zero where it is free.
 pub(crate) fn coefficient_at(s: NoiseSet, left: Items, right: Items) -> Complex
-    requires { ⌜ s .count ≤ 64 ⌝ }
+    requires { ⌜ s .count ≤ mostTerms ⌝ }
     ensures { λ r. ⌜ r ≡ coefficientAt pairTerms (left, right) (heldBy s) ⌝ }
 {
     let i = find_from(s, 0, left, right);
@@ -169,7 +170,7 @@ pub(crate) fn coefficient_at(s: NoiseSet, left: Items, right: Items) -> Complex
 
 // What `set` answers of the key as it was.
 fn was(s: NoiseSet, left: Items, right: Items) -> SetAnswer
-    requires { ⌜ s .count ≤ 64 ⌝ }
+    requires { ⌜ s .count ≤ mostTerms ⌝ }
     ensures { λ r. ⌜ saidSet r ≡ gives (map (λ t. t .coefficient) (held (keyed pairTerms (left, right)) (heldBy s))) ⌝ }
 {
     let i = find_from(s, 0, left, right);
@@ -210,7 +211,7 @@ pub fn is_valid(s: NoiseSet) -> bool
 }
 
 // The coefficient under a key.
-pub fn get(s: NoiseSet, left: Items, right: Items) -> GetAnswer
+pub(crate) fn get(s: NoiseSet, left: Items, right: Items) -> GetAnswer
     ensures { λ r. ⌜ saidGet r ≡ getPair s (left, right) ⌝ }
 {
     if !is_valid(s) {
@@ -226,7 +227,7 @@ pub fn get(s: NoiseSet, left: Items, right: Items) -> GetAnswer
 }
 
 // A coefficient set under a key; what was there before is answered.
-pub fn set(s: NoiseSet, left: Items, right: Items, value: Complex) -> NoiseSetAfterSet
+pub(crate) fn set(s: NoiseSet, left: Items, right: Items, value: Complex) -> NoiseSetAfterSet
     ensures { λ r. ⌜ toldSet r ≡ setPair s (left, right) value ⌝ }
 {
     if !is_valid(s) {
@@ -269,7 +270,7 @@ pub fn set(s: NoiseSet, left: Items, right: Items, value: Complex) -> NoiseSetAf
 }
 
 // A coefficient added to the one under a key.
-pub fn add(s: NoiseSet, left: Items, right: Items, value: Complex) -> NoiseSetAnswer
+pub(crate) fn add(s: NoiseSet, left: Items, right: Items, value: Complex) -> NoiseSetAnswer
     ensures { λ r. ⌜ told r ≡ addPair s (left, right) value ⌝ }
 {
     if !is_valid(s) {

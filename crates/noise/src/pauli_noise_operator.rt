@@ -3,7 +3,7 @@ ghost use mathlib.Core.Path.{_≡_};
 ghost use mathlib.Core.List.{[]};
 ghost use Rattle.products.specs.Lists.{at};
 ghost use Rattle.operators.specs.Answers.{saidGet};
-ghost use Rattle.noise.specs.Pairs.{filled};
+ghost use Rattle.noise.specs.Pairs.{filled, validSet};
 ghost use Rattle.noise.specs.Answers.{getPair, setPair, addPair, addFullOperators, remapSet};
 ghost use Rattle.noise.specs.Kinds.{toldNoiseSet, toldNoise};
 use crate::noise_set::NoiseSet;
@@ -12,6 +12,7 @@ use operators::decoherence_operator::DecoherenceOperator;
 use operators::term_set::GetAnswer;
 use operators::term_set::SetAnswer;
 use products::decoherence_product::DecoherenceProduct;
+use products::items::SITE_COUNT;
 use products::items::Site;
 use refusal::Outcome;
 
@@ -36,6 +37,14 @@ impl PauliLindbladNoiseOperator {
     {
         let set = crate::noise_set::empty_set();
         PauliLindbladNoiseOperator { set: set }
+    }
+
+    // Whether number 0 lets the operator pass.
+    pub fn is_valid(self) -> bool
+        ensures { λ r. ⌜ r ≡ validSet (self .set) ⌝ }
+    {
+        let s = self.set;
+        crate::noise_set::is_valid(s)
     }
 
     // The coefficient of a pair, zero where there is none.
@@ -100,9 +109,7 @@ impl PauliLindbladNoiseOperator {
         ensures { λ r. ⌜ toldNoise r ≡ addFullOperators (self .set) (left .terms) (right .terms) value ⌝ }
     {
         let s = self.set;
-        let l = left.terms;
-        let t = right.terms;
-        let a = crate::full::add_full(s, l, t, value);
+        let a = crate::full::add_full(s, left, right, value);
         let outcome = a.outcome;
         let set = a.set;
         NoiseOperatorAnswer {
@@ -112,7 +119,7 @@ impl PauliLindbladNoiseOperator {
     }
 
     // Every product moved to the targets of its sites.
-    pub fn remap_qubits(self, targets: [Site; 31]) -> NoiseOperatorAnswer
+    pub fn remap_qubits(self, targets: [Site; SITE_COUNT]) -> NoiseOperatorAnswer
         ensures { λ r. ⌜ toldNoise r ≡ remapSet (at targets) (self .set) ⌝ }
     {
         let s = self.set;

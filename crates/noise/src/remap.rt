@@ -3,6 +3,7 @@ ghost use mathlib.Core.Path.{_≡_};
 ghost use Prim.Native.Nat.{_≤_};
 ghost use Rattle.products.specs.Lists.{at};
 ghost use Rattle.products.specs.Answers.{told as toldItems};
+ghost use Rattle.terms.specs.Setting.{mostTerms};
 ghost use Rattle.noise.specs.Pairs.{heldBy};
 ghost use Rattle.noise.specs.Answers.{told, remapSet};
 ghost use Rattle.noise.specs.Chained.{State, Stands, Chain, movedOn, remapOne, remapRun};
@@ -15,6 +16,7 @@ use crate::noise_set::empty_set;
 use crate::noise_set::is_valid;
 use complex::Complex;
 use products::items::ItemsAnswer;
+use products::items::SITE_COUNT;
 use products::items::Site;
 use refusal::Outcome;
 use refusal::Refusal;
@@ -57,7 +59,7 @@ fn add_moved(
 }
 
 // One term, moved and added.
-fn remap_one(c: NoiseSetAnswer, x: NoiseTerm, targets: [Site; 31]) -> NoiseSetAnswer
+fn remap_one(c: NoiseSetAnswer, x: NoiseTerm, targets: [Site; SITE_COUNT]) -> NoiseSetAnswer
     requires { ⌜ Chain c ⌝ }
     ensures { λ r. ⌜ ((o : State) → Stands c o → Stands r (remapOne (at targets) x o)) ⌝ }
 {
@@ -70,8 +72,8 @@ fn remap_one(c: NoiseSetAnswer, x: NoiseTerm, targets: [Site; 31]) -> NoiseSetAn
 }
 
 // All terms, moved and added in their order.
-fn remap_all(s: NoiseSet, targets: [Site; 31]) -> NoiseSetAnswer
-    requires { ⌜ s .count ≤ 64 ⌝ }
+fn remap_all(s: NoiseSet, targets: [Site; SITE_COUNT]) -> NoiseSetAnswer
+    requires { ⌜ s .count ≤ mostTerms ⌝ }
     ensures { λ r. ⌜ Stands r (remapRun (at targets) (heldBy s)) ⌝ }
 {
     let n = s.count;
@@ -89,7 +91,7 @@ fn remap_all(s: NoiseSet, targets: [Site; 31]) -> NoiseSetAnswer
 }
 
 // Every product moved to the targets of its sites; the first product refused refuses the call.
-pub fn remap_qubits(s: NoiseSet, targets: [Site; 31]) -> NoiseSetAnswer
+pub(crate) fn remap_qubits(s: NoiseSet, targets: [Site; SITE_COUNT]) -> NoiseSetAnswer
     ensures { λ r. ⌜ told r ≡ remapSet (at targets) s ⌝ }
 {
     if !is_valid(s) {

@@ -7,6 +7,7 @@ ghost use Rattle.complex.specs.Complex.{isZero, inRange};
 ghost use Rattle.products.specs.Record.{valid};
 ghost use Rattle.products.specs.Verdicts.{judgedMasks};
 ghost use Rattle.terms.specs.Keyed.{each};
+ghost use Rattle.terms.specs.Setting.{mostTerms};
 ghost use Rattle.noise.specs.Pairs.{heldBy, goodKey, goodCoefficient, goodTerm, isBlank};
 ghost use Rattle.noise.specs.PairMasks.{heldMasks, noMasks, pairMasks};
 use crate::noise_set::NoiseSet;
@@ -16,15 +17,16 @@ use crate::numbers::is_new_marked;
 use crate::numbers::mark_of;
 use complex::Complex;
 use products::items::Items;
+use terms::MOST_TERMS;
 
 // What number 0 says of a noise set; of a valid one its count, and each term's masks and coefficient.
 pub struct PairMasks {
     pub valid: bool,
     pub count: usize,
-    pub lefts: [u64; 64],
-    pub rights: [u64; 64],
-    pub re: [f64; 64],
-    pub im: [f64; 64],
+    pub lefts: [u64; MOST_TERMS],
+    pub rights: [u64; MOST_TERMS],
+    pub re: [f64; MOST_TERMS],
+    pub im: [f64; MOST_TERMS],
 }
 
 // Whether a record is the zero record.
@@ -103,24 +105,24 @@ fn refused() -> PairMasks
     PairMasks {
         valid: false,
         count: 0,
-        lefts: [0; 64],
-        rights: [0; 64],
-        re: [0.0; 64],
-        im: [0.0; 64],
+        lefts: [0; MOST_TERMS],
+        rights: [0; MOST_TERMS],
+        re: [0.0; MOST_TERMS],
+        im: [0.0; MOST_TERMS],
     }
 }
 
 // The held terms' masks and coefficients, where every held term is good. Good terms with the same two numbers have one key, so numbers
 // that repeat are refused.
 fn gathered(s: NoiseSet) -> PairMasks
-    requires { ⌜ s .count ≤ 64 ⌝ }
+    requires { ⌜ s .count ≤ mostTerms ⌝ }
     ensures { λ r. ⌜ r ≡ cond (each goodTerm (heldBy s)) (heldMasks s) noMasks ⌝ }
 {
     let n = s.count;
-    let mut lefts = [0u64; 64];
-    let mut rights = [0u64; 64];
-    let mut re = [0.0; 64];
-    let mut im = [0.0; 64];
+    let mut lefts = [0u64; MOST_TERMS];
+    let mut rights = [0u64; MOST_TERMS];
+    let mut re = [0.0; MOST_TERMS];
+    let mut im = [0.0; MOST_TERMS];
     let mut marks = [0u8; 256];
     let mut i: usize = 0;
     while i < n {
@@ -153,11 +155,11 @@ fn gathered(s: NoiseSet) -> PairMasks
 
 // Whether zero records stand past the count.
 fn blanks_past(s: NoiseSet) -> bool
-    requires { ⌜ s .count ≤ 64 ⌝ }
+    requires { ⌜ s .count ≤ mostTerms ⌝ }
     ensures { λ r. ⌜ r ≡ each (λ t ts. isBlank t) (drop (s .count) (s .terms)) ⌝ }
 {
     let mut i = s.count;
-    while i < 64 {
+    while i < MOST_TERMS {
         let t = s.terms[i];
         if !is_blank(t) {
             return false;
@@ -172,10 +174,10 @@ pub fn masked(s: NoiseSet) -> PairMasks
     ensures { λ r. ⌜ r ≡ pairMasks s ⌝ }
 {
     let n = s.count;
-    if 64 < n {
+    if MOST_TERMS < n {
         return refused();
     }
-    if n < 64 {
+    if n < MOST_TERMS {
         if !blanks_past(s) {
             return refused();
         }

@@ -16,7 +16,7 @@ use Rattle.terms.specs.Keyed.{each, concatMap}
 use Rattle.terms.specs.Setting.{mostTerms}
 use Rattle.terms.proofs.KeyedLaws.{each-cons, each-head, each-tail, concatMap-cons}
 use Rattle.rows.specs.Calls.{outside}
-use Rattle.rows.proofs.EntryLaws.{Within}
+use Rattle.open_system.proofs.EntryLaws.{Within}
 use Rattle.operators.specs.Reals as reals
 use Rattle.operators.specs.Complexes as complexes
 use Rattle.operators.specs.declared.term_set.Term.{Term}

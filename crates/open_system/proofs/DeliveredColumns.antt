@@ -1,14 +1,15 @@
--- Which columns a row delivers, over any numbers: those with a contribution, and where zero sums are left out those whose sum is not zero.
--- With `row-columns`, `row-numbers` and `placeAll-columns` of the crate rows these are all four kinds of row.
+-- Which columns a row delivers, over any numbers: those with a contribution, and where zero sums are left out those whose sum is not zero; an open
+-- system's row delivers those of both parts.
 -- Assumes nothing.
 use mathlib.Core.Path.{_≡_, refl, ap, _∙_}
-use mathlib.Core.Bool.{Bool, true, false, cond}
+use mathlib.Core.Bool.{Bool, true, false, _||_, cond}
 use mathlib.Core.List.{List, [], _∷_}
 use Prim.Native.Nat.{ℕ}
 use lib.Dec.{eqb}
-use Rattle.rows.specs.Placing.{rowOf, nonzero}
-use Rattle.rows.specs.Sums.{contributionsTo, summed}
-use Rattle.rows.proofs.PlacingLaws.{row-numbers}
+use Rattle.rows.specs.Numbers.{Numbers}
+use Rattle.rows.specs.Placing.{rowOf, nonzero, keptBy, rowIn, openRowIn}
+use Rattle.rows.specs.Sums.{hasColumn, contributionsTo, summed}
+use Rattle.rows.proofs.PlacingLaws.{row-numbers, placeAll-columns}
 
 -- the numbers that are not zero
 unfoldable pub withoutZeros : {N : Type 0} → (N → Bool) → List N → List N
@@ -30,7 +31,19 @@ module _ {N : Type 0} (isZero : N → Bool) where
   nonzero-numbers c [] = refl
   nonzero-numbers c (x ∷ l) = step c x l (isZero (x .1)) (eqb c (x .0)) (nonzero-numbers c l) refl refl
 
-  -- a row without zero sums has a column exactly where the ordered sum of its contributions is there and not zero, with that sum
-  pub commutator-columns : (sum : N → N → N) (c : ℕ) (es : List (ℕ × N))
-      → contributionsTo c (nonzero isZero (rowOf sum es)) ≡ withoutZeros isZero (summed sum (contributionsTo c es))
-  commutator-columns sum c es = nonzero-numbers c (rowOf sum es) ∙ ap (withoutZeros isZero) (row-numbers sum c es)
+-- the rows that contracts name, over any numbers A
+module _ {C N : Type 0} (A : Numbers C N) (c : ℕ) where
+  -- a row with zero sums has a column exactly where there are contributions to it, with their ordered sum
+  pub kept-columns : (es : List (ℕ × N)) → contributionsTo c (rowIn A true es) ≡ summed (A .sum) (contributionsTo c es)
+  unfolding rowIn keptBy
+  kept-columns es = row-numbers (A .sum) c es
+
+  -- a row without them has a column exactly where that sum is there and not zero
+  pub commutator-columns : (es : List (ℕ × N)) → contributionsTo c (rowIn A false es) ≡ withoutZeros (A .isZero) (summed (A .sum) (contributionsTo c es))
+  unfolding rowIn keptBy
+  commutator-columns es = nonzero-numbers (A .isZero) c (rowOf (A .sum) es) ∙ ap (withoutZeros (A .isZero)) (row-numbers (A .sum) c es)
+
+  -- an open system's row has the columns of both parts
+  pub open-columns : (es fs : List (ℕ × N)) → hasColumn c (openRowIn A es fs) ≡ (hasColumn c (rowIn A false es) || hasColumn c (rowIn A true fs))
+  unfolding openRowIn
+  open-columns es fs = placeAll-columns (A .sum) c (rowIn A true fs) (rowIn A false es)

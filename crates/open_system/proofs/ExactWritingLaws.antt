@@ -1,5 +1,5 @@
--- Exact contributions: a whole coefficient is small enough to be taken, so what the code puts is what the term contributes; every contribution of
--- a system is small; number 11 after the tests of a row call.
+-- Exact contributions: a whole coefficient is within the limit, and what the code puts is what the term contributes; every contribution of a system
+-- is small; number 11 after the tests of a row call.
 -- Assumes nothing.
 use Prim.Native.Nat.{ℕ, _*_, _/_, _%_, _^_, _≤_, _<_}
 use native.Mathlib.Omega.{arith}
@@ -22,19 +22,20 @@ use Rattle.products.specs.Masks.{masksOf}
 use Rattle.products.specs.Answers.{mostSpins}
 use Rattle.terms.specs.Keyed.{each, concatMap}
 use Rattle.rows.specs.Numbers.{halves}
+use Rattle.rows.specs.Placing.{rowIn}
 use Rattle.rows.specs.Buffers.{mostEntries}
 use Rattle.rows.specs.Calls.{outside, unlessOutside, checkedRow}
-use Rattle.rows.specs.Entries.{commutatorEntries, noiseEntries}
-use Rattle.rows.specs.ExactRows.{whole, within, taken, largestCoefficient, allSmall, exactRowOf, exactEntries, exactAnswer, ExactDelivered, ExactCall}
-use Rattle.rows.proofs.HalfLaws.{taken-is, read-small}
-use Rattle.rows.proofs.ExactLaws.{small-none, small-append, commutator-small, noise-small, exact-delivered}
-use Rattle.rows.proofs.CallLaws.{call-refused, call-delivered}
+use Rattle.open_system.specs.Entries.{commutatorEntries, noiseEntries}
+use Rattle.rows.specs.ExactRows.{whole, within, allSmall, exactEntries, exactAnswer, ExactCall}
+use Rattle.rows.proofs.ExactLaws.{small-none, small-append, exact-delivered}
+use Rattle.rows.proofs.CallLaws.{call-refused}
 use Rattle.operators.specs.declared.term_set.Term.{Term}
 use Rattle.noise.specs.declared.noise_set.NoiseTerm.{NoiseTerm}
 use Rattle.open_system.specs.Accepted.{Accepted}
 use Rattle.open_system.specs.NoiseRows.{sides}
 use Rattle.open_system.specs.OpenRows.{itemsOf}
-use Rattle.open_system.specs.ExactRows.{gaussOf, exactCommutatorPart, exactNoisePart, exactContributions, wholeTerms, unlessNotWhole, exactRowOfTerms}
+use Rattle.open_system.specs.ExactRows.{gaussOf, largestCoefficient, exactCommutatorPart, exactNoisePart, exactContributions, wholeTerms, unlessNotWhole, exactRowOfTerms}
+use Rattle.open_system.proofs.CoefficientLaws.{read-small, commutator-small, noise-small}
 use Rattle.open_system.proofs.WritingLaws.{put-commutator, put-noise}
 
 -- ---- a coefficient
@@ -48,9 +49,13 @@ gauss-within c =
     (le-leb (natAbs (partsOf (c .im))) largestCoefficient (omega (arith, parts-abs (c .im))))
 
 -- x and y are its parts as the code finds them
-gauss-taken : (c : Complex) {x y : ℤ} → x ≡ partsOf (c .re) → y ≡ partsOf (c .im) → taken (whole x y) ≡ gaussOf c
-unfolding gaussOf
-gauss-taken c e f = ap₂ (λ (x y : ℤ). taken (whole x y)) e f ∙ taken-is (gaussOf c) (gauss-within c)
+module _ (c : Complex) {x y : ℤ} (e : x ≡ partsOf (c .re)) (f : y ≡ partsOf (c .im)) where
+  gauss-is : whole x y ≡ gaussOf c
+  unfolding gaussOf
+  gauss-is = ap₂ whole e f
+
+  pub parts-within : within largestCoefficient (whole x y) ≡ true
+  parts-within = ap (within largestCoefficient) gauss-is ∙ gauss-within c
 
 -- such a part, handed to a function, is read back from its bits
 pub read-parts : (x : Float) {z : ℤ} → z ≡ partsOf x → toZ w64 (ofZ w64 z) ≡ partsOf x
@@ -60,19 +65,19 @@ module _ (n r : ℕ) where
   -- what is put of a term: a and b are the values found
   pub exact-commutator-put : (t : Term) → Accepted n (2 ^ n * 2 ^ n) r (t .items ∷ []) → {m : ℕ} → m ≡ masksOf (t .items) → {left right : ℕ × ℕ} → left ∷ right ∷ [] ≡ commutatorEntries m n r
       → {x y : ℤ} → x ≡ partsOf (t .coefficient .re) → y ≡ partsOf (t .coefficient .im)
-      → {a b : G} → a ≡ halves .scaled (left .1) (taken (whole x y)) → b ≡ halves .scaled (right .1) (taken (whole x y))
+      → {a b : G} → a ≡ halves .scaled (left .1) (whole x y) → b ≡ halves .scaled (right .1) (whole x y)
       → (l : List (ℕ × G)) {l′ l″ : List (ℕ × G)} → l′ ≡ l ++ (left .0, a) ∷ [] → l″ ≡ l′ ++ (right .0, b) ∷ [] → l″ ≡ l ++ exactCommutatorPart n r t
   exact-commutator-put t k em {left} {right} e ex ey ea eb =
-      let g = gauss-taken (t .coefficient) ex ey in
+      let g = gauss-is (t .coefficient) ex ey in
       put-commutator halves (gaussOf (t .coefficient)) n r (t .items) k em e (ea ∙ ap (halves .scaled (left .1)) g) (eb ∙ ap (halves .scaled (right .1)) g)
 
   pub exact-noise-put : (t : NoiseTerm) → Accepted n (2 ^ n * 2 ^ n) r (sides t) → {m m′ : ℕ} → m ≡ masksOf (t .left) → m′ ≡ masksOf (t .right)
       → {jump left right : ℕ × ℕ} → jump ∷ left ∷ right ∷ [] ≡ noiseEntries m m′ n r
       → {x y : ℤ} → x ≡ partsOf (t .coefficient .re) → y ≡ partsOf (t .coefficient .im)
-      → {a b d : G} → a ≡ halves .scaled (jump .1) (taken (whole x y)) → b ≡ halves .minusHalf (left .1) (taken (whole x y)) → d ≡ halves .minusHalf (right .1) (taken (whole x y))
+      → {a b d : G} → a ≡ halves .scaled (jump .1) (whole x y) → b ≡ halves .minusHalf (left .1) (whole x y) → d ≡ halves .minusHalf (right .1) (whole x y)
       → (l : List (ℕ × G)) {l′ l″ l‴ : List (ℕ × G)} → l′ ≡ l ++ (jump .0, a) ∷ [] → l″ ≡ l′ ++ (left .0, b) ∷ [] → l‴ ≡ l″ ++ (right .0, d) ∷ [] → l‴ ≡ l ++ exactNoisePart n r t
   exact-noise-put t k em em′ {jump} {left} {right} e ex ey ea eb ed =
-      let g = gauss-taken (t .coefficient) ex ey in
+      let g = gauss-is (t .coefficient) ex ey in
       put-noise halves (gaussOf (t .coefficient)) n r (t .left) (t .right) k em em′ e (ea ∙ ap (halves .scaled (jump .1)) g) (eb ∙ ap (halves .minusHalf (left .1)) g) (ed ∙ ap (halves .minusHalf (right .1)) g)
 
   -- ---- every contribution is small
@@ -86,14 +91,14 @@ module _ (n r : ℕ) where
   unfolding exactContributions
   contributions-small h w =
       small-append (concatMap (exactCommutatorPart n r) h) (concatMap (exactNoisePart n r) w)
-      (all-small (exactCommutatorPart n r) (λ t. commutator-small n (r / 2 ^ n) (r % 2 ^ n) (gaussOf (t .coefficient)) (gauss-within (t .coefficient)) (letterAt (t .items))) h)
-      (all-small (exactNoisePart n r) (λ t. noise-small n (r / 2 ^ n) (r % 2 ^ n) (gaussOf (t .coefficient)) (gauss-within (t .coefficient)) (letterAt (t .left)) (letterAt (t .right))) w)
+      (all-small (exactCommutatorPart n r) (λ t. commutator-small (gaussOf (t .coefficient)) (gauss-within (t .coefficient)) n (r / 2 ^ n) (r % 2 ^ n) (letterAt (t .items))) h)
+      (all-small (exactNoisePart n r) (λ t. noise-small (gaussOf (t .coefficient)) (gauss-within (t .coefficient)) n (r / 2 ^ n) (r % 2 ^ n) (letterAt (t .left)) (letterAt (t .right))) w)
 
   -- ---- the row: the first k entries are the contributions of both parts
 
   pub exact-both : (h : List Term) (w : List NoiseTerm) (cs : List ℕ) (xs ys : List ℤ) (k : ℕ) → k ≤ mostEntries → {l : List (ℕ × G)}
       → exactEntries cs xs ys k ≡ l ++ concatMap (exactNoisePart n r) w → l ≡ concatMap (exactCommutatorPart n r) h
-      → {q : Said ℕ} {a a′ : List ℕ} {b b′ c c′ : List ℤ} → ExactCall (exactAnswer (exactEntries cs xs ys k)) q a a′ b b′ c c′ → ExactDelivered (exactRowOf (exactContributions n r h w)) q a a′ b b′ c c′
+      → {q : Said ℕ} {a a′ : List ℕ} {b b′ c c′ : List ℤ} → ExactCall (exactAnswer (exactEntries cs xs ys k)) q a a′ b b′ c c′ → ExactCall (gives (rowIn halves false (exactContributions n r h w))) q a a′ b b′ c c′
   unfolding exactContributions
   exact-both h w cs xs ys k few e f d =
       exact-delivered cs xs ys k few (e ∙ ap (λ (z : List (ℕ × G)). z ++ concatMap (exactNoisePart n r) w) f) (contributions-small h w) d
@@ -101,13 +106,13 @@ module _ (n r : ℕ) where
   -- ---- 11 after 7, 9 and 8
 
   checked : (h : List Term) (w : List NoiseTerm) → Accepted n (2 ^ n * 2 ^ n) r (itemsOf h w)
-      → checkedRow n (2 ^ n * 2 ^ n) r (itemsOf h w) (exactRowOf (exactContributions n r h w)) ≡ gives (exactRowOf (exactContributions n r h w))
+      → checkedRow n (2 ^ n * 2 ^ n) r (itemsOf h w) (rowIn halves false (exactContributions n r h w)) ≡ gives (rowIn halves false (exactContributions n r h w))
   unfolding checkedRow unlessOutside
   checked h w k = rw (le-ltb mostSpins n (k .few), lt-leb (2 ^ n * 2 ^ n) r (k .below), k .inside) refl
 
   module _ (h : List Term) (w : List NoiseTerm) {a : List ℕ} {b c : List ℤ} where
     -- what is refused before it stays so
-    pub before-whole : {k : ℕ} {s : List ℕ} → checkedRow n (2 ^ n * 2 ^ n) r (itemsOf h w) (exactRowOf (exactContributions n r h w)) ≡ refuses k s
+    pub before-whole : {k : ℕ} {s : List ℕ} → checkedRow n (2 ^ n * 2 ^ n) r (itemsOf h w) (rowIn halves false (exactContributions n r h w)) ≡ refuses k s
         → ExactCall (exactRowOfTerms n r h w) (refuses k s) a a b b c c
     unfolding exactRowOfTerms unlessNotWhole
     before-whole {k} {s} e = rw e (call-refused k s a b c)
@@ -129,10 +134,10 @@ module _ (n r : ℕ) where
       unfolding exactRowOfTerms unlessNotWhole
       not-whole e = rw (checked h w k, e) (call-refused 11 [] a b c)
 
-      pub whole-delivered : wholeTerms h w ≡ true → {q : Said ℕ} {a′ : List ℕ} {b′ c′ : List ℤ} → ExactDelivered (exactRowOf (exactContributions n r h w)) q a a′ b b′ c c′
+      pub whole-delivered : wholeTerms h w ≡ true → {q : Said ℕ} {a′ : List ℕ} {b′ c′ : List ℤ} → ExactCall (gives (rowIn halves false (exactContributions n r h w))) q a a′ b b′ c c′
           → ExactCall (exactRowOfTerms n r h w) q a a′ b b′ c c′
       unfolding exactRowOfTerms unlessNotWhole
-      whole-delivered e d = rw (checked h w k, e) (call-delivered d)
+      whole-delivered e d = rw (checked h w k, e) d
 
 -- both tests of 11
 pub first-not-whole : (h : List Term) (w : List NoiseTerm) → each (λ t ts. bothWhole (t .coefficient)) h ≡ false → wholeTerms h w ≡ false

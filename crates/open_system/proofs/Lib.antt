@@ -1,10 +1,13 @@
+pub mod EntryLaws
 pub mod OutsideLaws
 pub mod AcceptedLaws
 pub mod JudgingLaws
 pub mod WritingLaws
 pub mod MaskedLaws
 pub mod HandedLaws
+pub mod CoefficientLaws
 pub mod ExactWritingLaws
 pub mod SystemRowLaws
 pub mod SystemTheorems
 pub mod DeliveredColumns
+pub mod GroupingLaws

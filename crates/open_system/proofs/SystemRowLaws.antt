@@ -2,38 +2,39 @@
 -- Assumes nothing.
 use Prim.Native.Nat.{ℕ, _+_, _≤_}
 use native.Mathlib.Omega.{arith}
-use mathlib.Core.Path.{_≡_, subst}
+use mathlib.Core.Path.{_≡_, ap₂, subst}
 use mathlib.Core.Bool.{true, false, not, cond}
 use mathlib.Core.List.{List, []}
+use lib.Dec.{leb}
 use lib.IntN.{ℤ}
 use lib.Ieee.{Float}
-use Rattle.refusal.specs.Refusals.{Said, refuses}
+use Rattle.refusal.specs.Refusals.{Said, gives, refuses}
 use Rattle.complex.specs.declared.Complex.{Complex}
-use Rattle.rows.specs.Buffers.{TwoParts, Delivered, Answered, floatRow, openRow}
-use Rattle.rows.specs.Calls.{RowCallIn, RowCall}
+use Rattle.rows.specs.Numbers.{floats}
+use Rattle.rows.specs.Placing.{openRowIn}
+use Rattle.rows.specs.Buffers.{TwoParts, mostEntries}
+use Rattle.rows.specs.Calls.{unlessMalformed, RowCallIn, RowCall}
 use Rattle.rows.specs.ExactRows.{ExactCall}
 use Rattle.rows.proofs.CallLaws.{call-refused}
+use Rattle.rows.proofs.DeliveryLaws.{delivered}
 use Rattle.operators.specs.Reals as reals
 use Rattle.operators.specs.declared.term_set.Term.{Term}
 use Rattle.noise.specs.Pairs as pairs
 use Rattle.open_system.specs.OperatorRows.{hamiltonianTerms}
 use Rattle.open_system.specs.OpenRows.{validSystem, systemRowOf, systemRow}
 use Rattle.open_system.specs.ExactRows.{exactRowOfTerms, exactRow}
-use Rattle.open_system.specs.declared.PauliOpenSystem.{PauliOpenSystem}
+use Rattle.open_system.specs.declared.PauliLindbladOpenSystem.{PauliLindbladOpenSystem}
 
 -- what is delivered of entries that are the contributions of both parts
 pub delivered-both : {k m : ℕ} {c c₀ n n₀ : List (ℕ × Complex)} {r : Said ℕ} {x x′ : List ℕ} {y y′ z z′ : List Float} → k ≤ 128 → m ≤ 192 → c₀ ≡ c → n₀ ≡ n
-    → Answered (k + m) (openRow (floatRow false c₀) (floatRow true n₀)) r x x′ y y′ z z′ → Delivered (openRow (floatRow false c) (floatRow true n)) r x x′ y y′ z z′
-delivered-both {k} {m} {c} {c₀} {n} {n₀} {r} {x} {x′} {y} {y′} {z} {z′} hk hm e f d =
-    let all : k + m ≤ 320 = omega arith in
-    subst (λ (l : List (ℕ × Complex)). Delivered (openRow (floatRow false c) (floatRow true l)) r x x′ y y′ z z′) f
-    (subst (λ (l : List (ℕ × Complex)). Delivered (openRow (floatRow false l) (floatRow true n₀)) r x x′ y y′ z z′) e (d .within all))
+    → RowCall (unlessMalformed (leb (k + m) mostEntries) (openRowIn floats c₀ n₀)) r x x′ y y′ z z′ → RowCall (gives (openRowIn floats c n)) r x x′ y y′ z z′
+delivered-both {k} {m} hk hm e f d = delivered {n = k + m} (omega arith) (ap₂ (openRowIn floats) e f) d
 
 -- number 0 comes first, for the Hamiltonian and for the noise, in a call that answers x after it
-abbrev judged : {N : Type 0} → PauliOpenSystem → Said (List (ℕ × N)) → Said (List (ℕ × N))
+abbrev judged : {N : Type 0} → PauliLindbladOpenSystem → Said (List (ℕ × N)) → Said (List (ℕ × N))
 judged s x = cond (not (validSystem s)) (refuses 0 []) x
 
-module _ {N X : Type 0} {P : TwoParts N X} (s : PauliOpenSystem) (x : Said (List (ℕ × N))) {a : List ℕ} {b c : List X} where
+module _ {N X : Type 0} {P : TwoParts N X} (s : PauliLindbladOpenSystem) (x : Said (List (ℕ × N))) {a : List ℕ} {b c : List X} where
   pub zero-hamiltonian : reals.validSet (s .system) ≡ false → RowCallIn P (judged s x) (refuses 0 []) a a b b c c
   unfolding validSystem
   zero-hamiltonian e = rw e (call-refused 0 [] a b c)
@@ -48,7 +49,7 @@ module _ {N X : Type 0} {P : TwoParts N X} (s : PauliOpenSystem) (x : Said (List
   zero-passed e f d = rw (e, f) d
 
 -- the rows in f64, and the exact rows; l are the Hamiltonian's terms
-module _ (s : PauliOpenSystem) (n r : ℕ) {a : List ℕ} where
+module _ (s : PauliLindbladOpenSystem) (n r : ℕ) {a : List ℕ} where
   module _ {b c : List Float} where
     pub system-malformed : reals.validSet (s .system) ≡ false → RowCall (systemRow s n r) (refuses 0 []) a a b b c c
     unfolding systemRow

@@ -18,10 +18,10 @@ use Rattle.terms.specs.Setting.{mostTerms}
 use Rattle.terms.proofs.KeyedLaws.{concatMap-nil, concatMap-more}
 use Rattle.rows.specs.Numbers.{Numbers, floats, minusHalfUnit}
 use Rattle.rows.specs.Contributions.{operatorTerms, commutatorTerms, noiseTerms}
-use Rattle.rows.specs.Entries.{entryOf, commutatorEntries, noiseEntries}
+use Rattle.open_system.specs.Entries.{entryOf, commutatorEntries, noiseEntries}
 use Rattle.rows.specs.Buffers.{TwoParts, floatParts, Long, entriesIn}
 use Rattle.rows.proofs.ArrayLaws.{entriesIn-none}
-use Rattle.rows.proofs.EntryLaws.{of-kind, operator-terms, commutator-contributes, noise-contributes}
+use Rattle.open_system.proofs.EntryLaws.{of-kind, operator-terms, commutator-contributes, noise-contributes}
 use Rattle.operators.specs.declared.term_set.Term.{Term}
 use Rattle.operators.proofs.CopyLaws.{take-held}
 use Rattle.noise.specs.declared.noise_set.NoiseTerm.{NoiseTerm}

@@ -1,7 +1,7 @@
 -- The exact row of an open system. Document 01, `Rows`: "Exact row of an open system: the same sums over whole numbers, counted in halves
 -- (signed 64-bit parts), zero sums left out"; number 11: "exact row: a part not whole or over 2^40".
 use Prim.Native.Nat.{ℕ, _*_, _/_, _%_, _^_}
-use mathlib.Core.Bool.{Bool, not, _&&_, cond}
+use mathlib.Core.Bool.{Bool, false, not, _&&_, cond}
 use mathlib.Core.List.{List, [], _++_}
 use Rattle.refusal.specs.Refusals.{Said, gives, refuses}
 use Rattle.complex.specs.Wholes.{bothWhole, partsOf}
@@ -11,18 +11,23 @@ use Rattle.products.specs.Record.{letterAt}
 use Rattle.terms.specs.Keyed.{each, concatMap}
 use Rattle.rows.specs.Numbers.{halves}
 use Rattle.rows.specs.Contributions.{commutatorTerms, noiseTerms}
-use Rattle.rows.specs.ExactRows.{whole, exactRowOf}
+use Rattle.rows.specs.Placing.{rowIn}
+use Rattle.rows.specs.ExactRows.{whole}
 use Rattle.rows.specs.Calls.{checkedRow}
 use Rattle.operators.specs.declared.term_set.Term.{Term}
 use Rattle.noise.specs.Pairs as pairs
 use Rattle.noise.specs.declared.noise_set.NoiseTerm.{NoiseTerm}
 use Rattle.open_system.specs.OperatorRows.{hamiltonianTerms}
 use Rattle.open_system.specs.OpenRows.{validSystem, itemsOf}
-use Rattle.open_system.specs.declared.PauliOpenSystem.{PauliOpenSystem}
+use Rattle.open_system.specs.declared.PauliLindbladOpenSystem.{PauliLindbladOpenSystem}
 
 -- a coefficient as a whole number
 unfoldable pub gaussOf : Complex → G
 gaussOf z = whole (partsOf (z .re)) (partsOf (z .im))
+
+-- the largest part of a coefficient that the code scales: 2^40 is the largest that number 11 lets pass, and twice 2^50 is a small contribution
+abbrev pub largestCoefficient : ℕ
+largestCoefficient = 2 ^ 50
 
 -- what a term contributes to row r
 abbrev pub exactCommutatorPart : ℕ → ℕ → Term → List (ℕ × G)
@@ -46,11 +51,11 @@ unlessNotWhole whole (refuses k s) = refuses k s
 
 -- row r of the terms, after number 0
 unfoldable pub exactRowOfTerms : ℕ → ℕ → List Term → List NoiseTerm → Said (List (ℕ × G))
-exactRowOfTerms n r h w = unlessNotWhole (wholeTerms h w) (checkedRow n (2 ^ n * 2 ^ n) r (itemsOf h w) (exactRowOf (exactContributions n r h w)))
+exactRowOfTerms n r h w = unlessNotWhole (wholeTerms h w) (checkedRow n (2 ^ n * 2 ^ n) r (itemsOf h w) (rowIn halves false (exactContributions n r h w)))
 
-unfoldable pub exactRow : PauliOpenSystem → ℕ → ℕ → Said (List (ℕ × G))
+unfoldable pub exactRow : PauliLindbladOpenSystem → ℕ → ℕ → Said (List (ℕ × G))
 exactRow s n r = cond (not (validSystem s)) (refuses 0 []) (exactRowOfTerms n r (hamiltonianTerms (s .system)) (pairs.heldBy (s .noise .set)))
 
 -- the columns of row r with their two parts, where no number refuses
-unfoldable pub exactEntriesOf : PauliOpenSystem → ℕ → ℕ → List (ℕ × G)
-exactEntriesOf s n r = exactRowOf (exactContributions n r (hamiltonianTerms (s .system)) (pairs.heldBy (s .noise .set)))
+unfoldable pub exactEntriesOf : PauliLindbladOpenSystem → ℕ → ℕ → List (ℕ × G)
+exactEntriesOf s n r = rowIn halves false (exactContributions n r (hamiltonianTerms (s .system)) (pairs.heldBy (s .noise .set)))

@@ -6,19 +6,23 @@ use Rattle.operators.specs.Reals as reals
 use Rattle.operators.specs.declared.pauli_hamiltonian.PauliHamiltonian.{PauliHamiltonian}
 use Rattle.noise.specs.Pairs as pairs
 use Rattle.noise.specs.declared.pauli_noise_operator.PauliLindbladNoiseOperator.{PauliLindbladNoiseOperator}
-use Rattle.open_system.specs.declared.PauliOpenSystem.{PauliOpenSystem}
+use Rattle.open_system.specs.declared.PauliLindbladOpenSystem.{PauliLindbladOpenSystem}
 use Rattle.open_system.specs.declared.OpenSystemAnswer.{OpenSystemAnswer}
 
 -- what `new` gives
-abbrev pub emptySystem : PauliOpenSystem
+abbrev pub emptySystem : PauliLindbladOpenSystem
 emptySystem = record { system = reals.filled []; noise = record { set = pairs.filled [] } }
 
--- both parts are judged by 0; the empty system stands beside a refusal
-unfoldable pub groupAnswer : PauliHamiltonian → PauliLindbladNoiseOperator → Said Unit × PauliOpenSystem
-groupAnswer h w =
-    cond (not (reals.validSet h)) (refuses 0 [], emptySystem)
-    (cond (not (pairs.validSet (w .set))) (refuses 0 [], emptySystem)
-    (done, record { system = h; noise = w }))
+-- both parts together
+abbrev pub together : PauliHamiltonian → PauliLindbladNoiseOperator → PauliLindbladOpenSystem
+together h w = record { system = h; noise = w }
 
-abbrev pub toldSystem : OpenSystemAnswer → Said Unit × PauliOpenSystem
+-- both parts are judged by 0, and come back as they were given beside a refusal: "State given in comes back unchanged"
+unfoldable pub groupAnswer : PauliHamiltonian → PauliLindbladNoiseOperator → Said Unit × PauliLindbladOpenSystem
+groupAnswer h w =
+    cond (not (reals.validSet h)) (refuses 0 [], together h w)
+    (cond (not (pairs.validSet (w .set))) (refuses 0 [], together h w)
+    (done, together h w))
+
+abbrev pub toldSystem : OpenSystemAnswer → Said Unit × PauliLindbladOpenSystem
 toldSystem r = (said (r .outcome), r .system)

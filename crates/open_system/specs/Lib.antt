@@ -1,3 +1,4 @@
+pub mod Entries
 pub mod Accepted
 pub mod Masked
 pub mod OperatorRows

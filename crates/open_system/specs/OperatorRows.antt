@@ -11,12 +11,12 @@ use Rattle.products.specs.declared.items.Items.{Items}
 use Rattle.terms.specs.Keyed.{concatMap}
 use Rattle.rows.specs.Numbers.{floats}
 use Rattle.rows.specs.Contributions.{operatorTerms, commutatorTerms}
-use Rattle.rows.specs.Buffers.{floatRow}
+use Rattle.rows.specs.Placing.{rowIn}
 use Rattle.rows.specs.Calls.{checkedRow}
 use Rattle.operators.specs.Complexes.{heldBy, validSet}
 use Rattle.operators.specs.Reals as reals
 use Rattle.operators.specs.declared.term_set.Term.{Term}
-use Rattle.operators.specs.declared.term_set.TermSet.{TermSet}
+use Rattle.operators.specs.declared.pauli_operator.PauliOperator.{PauliOperator}
 use Rattle.operators.specs.declared.pauli_hamiltonian.PauliHamiltonian.{PauliHamiltonian}
 
 abbrev pub itemsOf : List Term → List Items
@@ -42,17 +42,17 @@ commutatorContributions n r l = concatMap (commutatorPart n r) l
 
 -- of terms, after number 0
 unfoldable pub operatorRowOf : Letters → ℕ → ℕ → List Term → Said (List (ℕ × Complex))
-operatorRowOf M n r l = checkedRow n (2 ^ n) r (itemsOf l) (floatRow true (operatorContributions M n r l))
+operatorRowOf M n r l = checkedRow n (2 ^ n) r (itemsOf l) (rowIn floats true (operatorContributions M n r l))
 
 unfoldable pub commutatorRowOf : ℕ → ℕ → List Term → Said (List (ℕ × Complex))
-commutatorRowOf n r l = checkedRow n (2 ^ n * 2 ^ n) r (itemsOf l) (floatRow false (commutatorContributions n r l))
+commutatorRowOf n r l = checkedRow n (2 ^ n * 2 ^ n) r (itemsOf l) (rowIn floats false (commutatorContributions n r l))
 
 -- of a `PauliOperator` and of a Hamiltonian
-unfoldable pub operatorRow : TermSet → ℕ → ℕ → Said (List (ℕ × Complex))
-operatorRow s n r = cond (not (validSet true s)) (refuses 0 []) (operatorRowOf pauli n r (heldBy s))
+unfoldable pub operatorRow : PauliOperator → ℕ → ℕ → Said (List (ℕ × Complex))
+operatorRow s n r = cond (not (validSet true (s .terms))) (refuses 0 []) (operatorRowOf pauli n r (heldBy (s .terms)))
 
-unfoldable pub commutatorRow : TermSet → ℕ → ℕ → Said (List (ℕ × Complex))
-commutatorRow s n r = cond (not (validSet true s)) (refuses 0 []) (commutatorRowOf n r (heldBy s))
+unfoldable pub commutatorRow : PauliOperator → ℕ → ℕ → Said (List (ℕ × Complex))
+commutatorRow s n r = cond (not (validSet true (s .terms))) (refuses 0 []) (commutatorRowOf n r (heldBy (s .terms)))
 
 unfoldable pub hamiltonianRow : PauliHamiltonian → ℕ → ℕ → Said (List (ℕ × Complex))
 hamiltonianRow s n r = cond (not (reals.validSet s)) (refuses 0 []) (operatorRowOf pauli n r (hamiltonianTerms s))

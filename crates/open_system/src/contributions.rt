@@ -3,7 +3,9 @@ ghost use mathlib.Core.Path.{_≡_};
 ghost use mathlib.Core.List.{List, [], _∷_, _++_};
 ghost use Prim.Native.Nat.{_+_, _*_, _^_, _≤_, _<_};
 ghost use Rattle.letters.specs.Matrices.{lettersOf};
+ghost use Rattle.products.specs.Answers.{mostSpins};
 ghost use Rattle.products.specs.Masks.{masksOf};
+ghost use Rattle.terms.specs.Setting.{mostTerms};
 ghost use Rattle.rows.specs.Buffers.{Long, entries};
 ghost use Rattle.operators.specs.Complexes as complexes;
 ghost use Rattle.operators.specs.declared.term_set.Term.{Term};
@@ -13,15 +15,16 @@ ghost use Rattle.open_system.specs.Masked.{MaskedTerms, MaskedPairs};
 ghost use Rattle.open_system.specs.OperatorRows.{itemsOf, commutatorPart, operatorContributions, commutatorContributions};
 ghost use Rattle.open_system.specs.NoiseRows.{sides, noisePart, noiseContributions};
 ghost use Rattle.open_system.specs.NoiseRows as noise_rows;
+use crate::entries::commutator_entries;
+use crate::entries::minus_half_unit;
+use crate::entries::noise_entries;
+use crate::entries::operator_entry;
 use complex::Complex;
 use letters::Kind;
 use operators::term_set::TermSet;
 use operators::term_set::held_count;
 use products::row::masks;
-use rows::entries::commutator_entries;
-use rows::entries::minus_half_unit;
-use rows::entries::noise_entries;
-use rows::entries::operator_entry;
+use terms::MOST_TERMS;
 
 // One contribution at a place.
 fn put(
@@ -50,7 +53,8 @@ pub(crate) fn write_operator(
     re: &mut [f64; 320],
     im: &mut [f64; 320],
 ) -> usize
-    ensures { λ r. ⌜ (r ≤ 64) × (Long (now (columns .entry)) (now (re .entry)) (now (im .entry)) → Accepted spins (2 ^ spins) row (itemsOf (complexes.heldBy s)) → entries (now (columns .exit)) (now (re .exit)) (now (im .exit)) r ≡ operatorContributions (lettersOf kind) spins row (complexes.heldBy s)) ⌝ }
+    requires { ⌜ spins ≤ mostSpins ⌝ }
+    ensures { λ r. ⌜ (r ≤ mostTerms) × (Long (now (columns .entry)) (now (re .entry)) (now (im .entry)) → Accepted spins (2 ^ spins) row (itemsOf (complexes.heldBy s)) → entries (now (columns .exit)) (now (re .exit)) (now (im .exit)) r ≡ operatorContributions (lettersOf kind) spins row (complexes.heldBy s)) ⌝ }
 {
     let n = held_count(s.count);
     let mut i = 0;
@@ -76,7 +80,7 @@ fn put_commutator(
     re: &mut [f64; 320],
     im: &mut [f64; 320],
 )
-    requires { ⌜ at + 2 ≤ 320 ⌝ }
+    requires { ⌜ (at + 2 ≤ 320) × (spins ≤ mostSpins) ⌝ }
     ensures { λ r. ⌜ (Long (now (columns .entry)) (now (re .entry)) (now (im .entry)) → ((t : Term) → masks ≡ masksOf (t .items) → c ≡ t .coefficient → Accepted spins (2 ^ spins * 2 ^ spins) row (t .items ∷ []) → entries (now (columns .exit)) (now (re .exit)) (now (im .exit)) (at + 2) ≡ entries (now (columns .entry)) (now (re .entry)) (now (im .entry)) at ++ commutatorPart spins row t) × Long (now (columns .exit)) (now (re .exit)) (now (im .exit))) ⌝ }
 {
     let e = commutator_entries(masks, spins, row);
@@ -97,6 +101,7 @@ pub(crate) fn write_commutator(
     re: &mut [f64; 320],
     im: &mut [f64; 320],
 ) -> usize
+    requires { ⌜ spins ≤ mostSpins ⌝ }
     ensures { λ r. ⌜ (r ≤ 128) × (Long (now (columns .entry)) (now (re .entry)) (now (im .entry)) → Accepted spins (2 ^ spins * 2 ^ spins) row (itemsOf (complexes.heldBy s)) → entries (now (columns .exit)) (now (re .exit)) (now (im .exit)) r ≡ commutatorContributions spins row (complexes.heldBy s)) ⌝ }
 {
     let n = held_count(s.count);
@@ -120,8 +125,8 @@ pub(crate) fn write_commutator(
 
 // The same of n terms with real coefficients, given by arrays.
 pub(crate) fn write_hamiltonian(
-    masks: &[u64; 64],
-    parts: &[f64; 64],
+    masks: &[u64; MOST_TERMS],
+    parts: &[f64; MOST_TERMS],
     n: usize,
     spins: u32,
     row: u64,
@@ -129,7 +134,7 @@ pub(crate) fn write_hamiltonian(
     re: &mut [f64; 320],
     im: &mut [f64; 320],
 ) -> usize
-    requires { ⌜ n ≤ 64 ⌝ }
+    requires { ⌜ (n ≤ mostTerms) × (spins ≤ mostSpins) ⌝ }
     ensures { λ r. ⌜ (r ≡ 2 * n) × (Long (now (columns .entry)) (now (re .entry)) (now (im .entry)) → (l : List Term) → MaskedTerms (now (masks .entry)) (now (parts .entry)) n l → Accepted spins (2 ^ spins * 2 ^ spins) row (itemsOf l) → entries (now (columns .exit)) (now (re .exit)) (now (im .exit)) r ≡ commutatorContributions spins row l) ⌝ }
 {
     let mut i = 0;
@@ -156,7 +161,7 @@ fn put_noise(
     re: &mut [f64; 320],
     im: &mut [f64; 320],
 )
-    requires { ⌜ at + 3 ≤ 320 ⌝ }
+    requires { ⌜ (at + 3 ≤ 320) × (spins ≤ mostSpins) ⌝ }
     ensures { λ r. ⌜ (Long (now (columns .entry)) (now (re .entry)) (now (im .entry)) → ((t : NoiseTerm) → left ≡ masksOf (t .left) → right ≡ masksOf (t .right) → c ≡ t .coefficient → Accepted spins (2 ^ spins * 2 ^ spins) row (sides t) → entries (now (columns .exit)) (now (re .exit)) (now (im .exit)) (at + 3) ≡ entries (now (columns .entry)) (now (re .entry)) (now (im .entry)) at ++ noisePart spins row t) × Long (now (columns .exit)) (now (re .exit)) (now (im .exit))) ⌝ }
 {
     let e = noise_entries(left, right, spins, row);
@@ -174,10 +179,10 @@ fn put_noise(
 
 // The contributions of n noise terms given by arrays, three of each term; how many there are.
 pub(crate) fn write_noise(
-    lefts: &[u64; 64],
-    rights: &[u64; 64],
-    res: &[f64; 64],
-    ims: &[f64; 64],
+    lefts: &[u64; MOST_TERMS],
+    rights: &[u64; MOST_TERMS],
+    res: &[f64; MOST_TERMS],
+    ims: &[f64; MOST_TERMS],
     n: usize,
     spins: u32,
     row: u64,
@@ -185,7 +190,7 @@ pub(crate) fn write_noise(
     re: &mut [f64; 320],
     im: &mut [f64; 320],
 ) -> usize
-    requires { ⌜ n ≤ 64 ⌝ }
+    requires { ⌜ (n ≤ mostTerms) × (spins ≤ mostSpins) ⌝ }
     ensures { λ r. ⌜ (r ≡ 3 * n) × (Long (now (columns .entry)) (now (re .entry)) (now (im .entry)) → (l : List NoiseTerm) → MaskedPairs (now (lefts .entry)) (now (rights .entry)) (now (res .entry)) (now (ims .entry)) n l → Accepted spins (2 ^ spins * 2 ^ spins) row (noise_rows.itemsOf l) → entries (now (columns .exit)) (now (re .exit)) (now (im .exit)) r ≡ noiseContributions spins row l) ⌝ }
 {
     let mut i = 0;

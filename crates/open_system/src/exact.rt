@@ -3,6 +3,7 @@ ghost use mathlib.Core.Path.{_≡_};
 ghost use mathlib.Core.List.{[], _∷_, _++_};
 ghost use Prim.Native.Nat.{_+_, _*_, _^_, _≤_, _<_};
 ghost use Rattle.complex.specs.Wholes.{partsOf, isWhole, bothWhole};
+ghost use Rattle.products.specs.Answers.{mostSpins};
 ghost use Rattle.terms.specs.Keyed.{each, concatMap};
 ghost use Rattle.rows.specs.Buffers.{Long};
 ghost use Rattle.rows.specs.ExactRows.{whole, exactEntries};
@@ -13,6 +14,10 @@ ghost use Rattle.open_system.specs.OperatorRows.{itemsOf};
 ghost use Rattle.open_system.specs.NoiseRows.{sides};
 ghost use Rattle.open_system.specs.NoiseRows as noise_rows;
 ghost use Rattle.open_system.specs.ExactRows.{exactCommutatorPart, exactNoisePart};
+use crate::entries::commutator_entries;
+use crate::entries::noise_entries;
+use crate::halves::minus_halves;
+use crate::halves::scaled_halves;
 use complex::Complex;
 use complex::whole::WholePart;
 use complex::whole::whole_part;
@@ -22,11 +27,7 @@ use operators::term_set::Term;
 use operators::term_set::TermSet;
 use operators::term_set::held_count;
 use products::row::masks;
-use rows::entries::commutator_entries;
-use rows::entries::noise_entries;
 use rows::halves::Halves;
-use rows::halves::minus_halves;
-use rows::halves::scaled_halves;
 
 // The whole number that a part is, 0 where it is none.
 fn parts_of(x: f64) -> i64
@@ -118,7 +119,7 @@ fn put_commutator(
     re: &mut [i64; 320],
     im: &mut [i64; 320],
 )
-    requires { ⌜ at + 2 ≤ 320 ⌝ }
+    requires { ⌜ (at + 2 ≤ 320) × (spins ≤ mostSpins) ⌝ }
     ensures { λ r. ⌜ (Long (now (columns .entry)) (now (re .entry)) (now (im .entry)) → (Accepted spins (2 ^ spins * 2 ^ spins) row (t .items ∷ []) → exactEntries (now (columns .exit)) (now (re .exit)) (now (im .exit)) (at + 2) ≡ exactEntries (now (columns .entry)) (now (re .entry)) (now (im .entry)) at ++ exactCommutatorPart spins row t) × Long (now (columns .exit)) (now (re .exit)) (now (im .exit))) ⌝ }
 {
     let c = t.coefficient;
@@ -142,6 +143,7 @@ pub(crate) fn write_commutator(
     re: &mut [i64; 320],
     im: &mut [i64; 320],
 ) -> usize
+    requires { ⌜ spins ≤ mostSpins ⌝ }
     ensures { λ r. ⌜ (r ≤ 128) × (Long (now (columns .entry)) (now (re .entry)) (now (im .entry)) → Accepted spins (2 ^ spins * 2 ^ spins) row (itemsOf (complexes.heldBy s)) → (exactEntries (now (columns .exit)) (now (re .exit)) (now (im .exit)) r ≡ concatMap (exactCommutatorPart spins row) (complexes.heldBy s)) × Long (now (columns .exit)) (now (re .exit)) (now (im .exit))) ⌝ }
 {
     let n = held_count(s.count);
@@ -164,7 +166,7 @@ fn put_noise(
     re: &mut [i64; 320],
     im: &mut [i64; 320],
 )
-    requires { ⌜ at + 3 ≤ 320 ⌝ }
+    requires { ⌜ (at + 3 ≤ 320) × (spins ≤ mostSpins) ⌝ }
     ensures { λ r. ⌜ (Long (now (columns .entry)) (now (re .entry)) (now (im .entry)) → (Accepted spins (2 ^ spins * 2 ^ spins) row (sides t) → exactEntries (now (columns .exit)) (now (re .exit)) (now (im .exit)) (at + 3) ≡ exactEntries (now (columns .entry)) (now (re .entry)) (now (im .entry)) at ++ exactNoisePart spins row t) × Long (now (columns .exit)) (now (re .exit)) (now (im .exit))) ⌝ }
 {
     let c = t.coefficient;
@@ -193,7 +195,7 @@ pub(crate) fn write_noise(
     re: &mut [i64; 320],
     im: &mut [i64; 320],
 ) -> usize
-    requires { ⌜ from ≤ 128 ⌝ }
+    requires { ⌜ (from ≤ 128) × (spins ≤ mostSpins) ⌝ }
     ensures { λ r. ⌜ (r ≤ 320) × (Long (now (columns .entry)) (now (re .entry)) (now (im .entry)) → Accepted spins (2 ^ spins * 2 ^ spins) row (noise_rows.itemsOf (pairs.heldBy s)) → exactEntries (now (columns .exit)) (now (re .exit)) (now (im .exit)) r ≡ exactEntries (now (columns .entry)) (now (re .entry)) (now (im .entry)) from ++ concatMap (exactNoisePart spins row) (pairs.heldBy s)) ⌝ }
 {
     let n = held_count(s.count);

@@ -1,17 +1,21 @@
 // The exact row of an open system's superoperator.
 ghost use mathlib.Core.Path.{_≡_};
-ghost use mathlib.Core.Bool.{true};
+ghost use mathlib.Core.Bool.{true, false};
 ghost use Prim.Native.Nat.{_*_, _^_};
+ghost use Rattle.refusal.specs.Refusals.{gives};
 ghost use Rattle.products.specs.Record.{valid};
 ghost use Rattle.terms.specs.Keyed.{each};
+ghost use Rattle.rows.specs.Numbers.{halves};
+ghost use Rattle.rows.specs.Placing.{rowIn};
 ghost use Rattle.rows.specs.Buffers.{saidDelivery};
-ghost use Rattle.rows.specs.ExactRows.{exactRowOf, ExactDelivered, ExactCall};
+ghost use Rattle.rows.specs.ExactRows.{ExactCall};
 ghost use Rattle.operators.specs.Complexes as complexes;
 ghost use Rattle.noise.specs.Pairs as pairs;
 ghost use Rattle.open_system.specs.Accepted.{Accepted};
 ghost use Rattle.open_system.specs.OpenRows.{itemsOf};
 ghost use Rattle.open_system.specs.ExactRows.{exactContributions, exactRowOfTerms, exactRow};
-use crate::PauliOpenSystem;
+use crate::PauliLindbladOpenSystem;
+use crate::complex_terms::complex_terms;
 use crate::exact::whole_pairs;
 use crate::exact::whole_terms;
 use crate::exact::write_commutator;
@@ -19,7 +23,6 @@ use crate::exact::write_noise;
 use crate::outside_site;
 use crate::size_of;
 use noise::noise_set::NoiseSet;
-use operators::pauli_hamiltonian::complex_terms;
 use operators::term_set::TermSet;
 use products::row::MOST_SPINS;
 use refusal::Carried;
@@ -38,7 +41,7 @@ fn delivered(
     out_im: &mut [i64],
 ) -> Delivery
     requires { ⌜ Accepted spins (2 ^ spins * 2 ^ spins) row (itemsOf (complexes.heldBy h) (pairs.heldBy n)) ⌝ }
-    ensures { λ r. ⌜ ExactDelivered (exactRowOf (exactContributions spins row (complexes.heldBy h) (pairs.heldBy n))) (saidDelivery r) (now («out_columns» .entry)) (now («out_columns» .exit)) (now («out_re» .entry)) (now («out_re» .exit)) (now («out_im» .entry)) (now («out_im» .exit)) ⌝ }
+    ensures { λ r. ⌜ ExactCall (gives (rowIn halves false (exactContributions spins row (complexes.heldBy h) (pairs.heldBy n)))) (saidDelivery r) (now («out_columns» .entry)) (now («out_columns» .exit)) (now («out_re» .entry)) (now («out_re» .exit)) (now («out_im» .entry)) (now («out_im» .exit)) ⌝ }
 {
     let mut columns = [0u64; 320];
     let mut re = [0i64; 320];
@@ -97,7 +100,7 @@ fn row_of(
 
 // The exact row of an open system's superoperator over `spins` spins, in halves.
 pub fn exact_row(
-    s: PauliOpenSystem,
+    s: PauliLindbladOpenSystem,
     spins: u32,
     row: u64,
     out_columns: &mut [u64],

@@ -1,10 +1,13 @@
 // Open systems: a Hamiltonian with noise, and the rows of their superoperator; rows of operators, Hamiltonians and noise sets.
 ghost use mathlib.Core.Path.{_≡_};
-ghost use mathlib.Core.Bool.{true, false};
 ghost use mathlib.Core.List.{List};
 ghost use Prim.Native.Nat.{_*_, _^_, _≤_, _<_};
-ghost use Rattle.refusal.specs.Refusals.{carried};
-ghost use Rattle.rows.specs.Buffers.{Delivered, saidDelivery, floatRow, openRow};
+ghost use Rattle.refusal.specs.Refusals.{gives, carried};
+ghost use Rattle.products.specs.Answers.{mostSpins};
+ghost use Rattle.terms.specs.Setting.{mostTerms};
+ghost use Rattle.rows.specs.Numbers.{floats};
+ghost use Rattle.rows.specs.Placing.{openRowIn};
+ghost use Rattle.rows.specs.Buffers.{saidDelivery};
 ghost use Rattle.rows.specs.Calls.{RowCall, outside};
 ghost use Rattle.operators.specs.Complexes as complexes;
 ghost use Rattle.operators.specs.declared.term_set.Term.{Term};
@@ -17,19 +20,22 @@ ghost use Rattle.open_system.specs.NoiseRows.{noiseContributions};
 ghost use Rattle.open_system.specs.OpenRows.{itemsOf, systemRow};
 ghost use Rattle.open_system.specs.Grouping.{emptySystem, groupAnswer, toldSystem};
 
+mod complex_terms;
 mod contributions;
+mod entries;
 mod exact;
 pub mod exact_row;
+mod halves;
 pub mod noise_row;
 pub mod operator_row;
 mod outside;
 
+use complex_terms::complex_terms;
 use contributions::write_hamiltonian;
 use contributions::write_noise;
 use noise::noise_set::NoiseSet;
 use noise::pauli_noise_operator::PauliLindbladNoiseOperator;
 use operators::pauli_hamiltonian::PauliHamiltonian;
-use operators::pauli_hamiltonian::complex_terms;
 use operators::term_set::TermSet;
 use outside::of_noise;
 use outside::of_operator;
@@ -40,62 +46,60 @@ use refusal::Outcome;
 use refusal::Refusal;
 use rows::Delivery;
 use rows::deliver_both;
+use terms::MOST_TERMS;
 
-pub struct PauliOpenSystem {
+pub struct PauliLindbladOpenSystem {
     pub system: PauliHamiltonian,
     pub noise: PauliLindbladNoiseOperator,
 }
 
-// A system, or the refusal with the empty system beside it.
+// A system, and whether number 0 lets its parts pass.
 pub struct OpenSystemAnswer {
     pub outcome: Outcome,
-    pub system: PauliOpenSystem,
+    pub system: PauliLindbladOpenSystem,
 }
 
-impl PauliOpenSystem {
+impl PauliLindbladOpenSystem {
     // The system without terms.
-    pub fn new() -> PauliOpenSystem
+    pub fn new() -> PauliLindbladOpenSystem
         ensures { λ r. ⌜ r ≡ emptySystem ⌝ }
     {
         let h = PauliHamiltonian::new();
         let n = PauliLindbladNoiseOperator::new();
-        PauliOpenSystem {
+        PauliLindbladOpenSystem {
             system: h,
             noise: n,
         }
     }
 
-    // A Hamiltonian and a noise operator as one system, both judged by 0.
+    // A Hamiltonian and a noise operator as one system, both judged by 0; beside a refusal they stand as they were given.
     pub fn group(system: PauliHamiltonian, noise: PauliLindbladNoiseOperator) -> OpenSystemAnswer
         ensures { λ r. ⌜ toldSystem r ≡ groupAnswer system noise ⌝ }
     {
-        let set = noise.set;
         if !system.is_valid() {
             return OpenSystemAnswer {
                 outcome: Outcome::Refused(Refusal::Malformed),
-                system: PauliOpenSystem::new(),
+                system: PauliLindbladOpenSystem { system, noise },
             };
         }
-        if !noise::noise_set::is_valid(set) {
+        if !noise.is_valid() {
             return OpenSystemAnswer {
                 outcome: Outcome::Refused(Refusal::Malformed),
-                system: PauliOpenSystem::new(),
+                system: PauliLindbladOpenSystem { system, noise },
             };
         }
         OpenSystemAnswer {
             outcome: Outcome::Done,
-            system: PauliOpenSystem { system, noise },
+            system: PauliLindbladOpenSystem { system, noise },
         }
     }
 }
 
-// The count of the rows of a matrix over `spins` spins, where it fits 64 bits.
+// The count of the rows of a matrix over `spins` spins.
 pub(crate) fn size_of(spins: u32) -> u64
-    ensures { λ r. ⌜ (spins < 64 → r ≡ 2 ^ spins) ⌝ }
+    requires { ⌜ spins < 64 ⌝ }
+    ensures { λ r. ⌜ r ≡ 2 ^ spins ⌝ }
 {
-    if 63 < spins {
-        return 0;
-    }
     1u64 << spins
 }
 
@@ -111,13 +115,13 @@ pub(crate) fn outside_site(h: TermSet, n: NoiseSet, spins: u32) -> Carried
 
 // The row of terms that fit the spins, given by arrays: m of the Hamiltonian and n of the noise.
 fn delivered(
-    masks: &[u64; 64],
-    parts: &[f64; 64],
+    masks: &[u64; MOST_TERMS],
+    parts: &[f64; MOST_TERMS],
     m: usize,
-    lefts: &[u64; 64],
-    rights: &[u64; 64],
-    res: &[f64; 64],
-    ims: &[f64; 64],
+    lefts: &[u64; MOST_TERMS],
+    rights: &[u64; MOST_TERMS],
+    res: &[f64; MOST_TERMS],
+    ims: &[f64; MOST_TERMS],
     n: usize,
     spins: u32,
     row: u64,
@@ -125,8 +129,8 @@ fn delivered(
     out_re: &mut [f64],
     out_im: &mut [f64],
 ) -> Delivery
-    requires { ⌜ (m ≤ 64) × (n ≤ 64) ⌝ }
-    ensures { λ r. ⌜ ((h : List Term) (w : List NoiseTerm) → MaskedTerms (now (masks .entry)) (now (parts .entry)) m h → MaskedPairs (now (lefts .entry)) (now (rights .entry)) (now (res .entry)) (now (ims .entry)) n w → Accepted spins (2 ^ spins * 2 ^ spins) row (itemsOf h w) → Delivered (openRow (floatRow false (commutatorContributions spins row h)) (floatRow true (noiseContributions spins row w))) (saidDelivery r) (now («out_columns» .entry)) (now («out_columns» .exit)) (now («out_re» .entry)) (now («out_re» .exit)) (now («out_im» .entry)) (now («out_im» .exit))) ⌝ }
+    requires { ⌜ (m ≤ mostTerms) × (n ≤ mostTerms) × (spins ≤ mostSpins) ⌝ }
+    ensures { λ r. ⌜ ((h : List Term) (w : List NoiseTerm) → MaskedTerms (now (masks .entry)) (now (parts .entry)) m h → MaskedPairs (now (lefts .entry)) (now (rights .entry)) (now (res .entry)) (now (ims .entry)) n w → Accepted spins (2 ^ spins * 2 ^ spins) row (itemsOf h w) → RowCall (gives (openRowIn floats (commutatorContributions spins row h) (noiseContributions spins row w))) (saidDelivery r) (now («out_columns» .entry)) (now («out_columns» .exit)) (now («out_re» .entry)) (now («out_re» .exit)) (now («out_im» .entry)) (now («out_im» .exit))) ⌝ }
 {
     let mut c_columns = [0u64; 320];
     let mut c_re = [0.0f64; 320];
@@ -174,7 +178,7 @@ fn delivered(
 // The row of an open system's superoperator over `spins` spins: 0 for each part, 7, 9, 8, then the row. What judging hands out gives the row;
 // the sets are looked at again only where a mask does not fit the spins.
 pub fn row(
-    s: PauliOpenSystem,
+    s: PauliLindbladOpenSystem,
     spins: u32,
     row: u64,
     out_columns: &mut [u64],

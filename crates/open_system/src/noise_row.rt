@@ -2,7 +2,12 @@
 ghost use mathlib.Core.Bool.{true};
 ghost use mathlib.Core.List.{List};
 ghost use Prim.Native.Nat.{_*_, _^_, _≤_};
-ghost use Rattle.rows.specs.Buffers.{Delivered, saidDelivery, floatRow};
+ghost use Rattle.refusal.specs.Refusals.{gives};
+ghost use Rattle.products.specs.Answers.{mostSpins};
+ghost use Rattle.terms.specs.Setting.{mostTerms};
+ghost use Rattle.rows.specs.Numbers.{floats};
+ghost use Rattle.rows.specs.Placing.{rowIn};
+ghost use Rattle.rows.specs.Buffers.{saidDelivery};
 ghost use Rattle.rows.specs.Calls.{RowCall};
 ghost use Rattle.noise.specs.declared.noise_set.NoiseTerm.{NoiseTerm};
 ghost use Rattle.open_system.specs.Accepted.{Accepted};
@@ -12,20 +17,21 @@ use crate::contributions::write_noise;
 use crate::outside::of_noise;
 use crate::outside::pairs_fit;
 use crate::size_of;
-use noise::noise_set::NoiseSet;
+use noise::pauli_noise_operator::PauliLindbladNoiseOperator;
 use noise::valid_pairs::masked;
 use products::row::MOST_SPINS;
 use refusal::Carried;
 use refusal::Refusal;
 use rows::Delivery;
 use rows::deliver;
+use terms::MOST_TERMS;
 
 // The row of n terms that fit the spins, given by arrays: zero sums are kept.
 fn deliver_noise(
-    lefts: &[u64; 64],
-    rights: &[u64; 64],
-    res: &[f64; 64],
-    ims: &[f64; 64],
+    lefts: &[u64; MOST_TERMS],
+    rights: &[u64; MOST_TERMS],
+    res: &[f64; MOST_TERMS],
+    ims: &[f64; MOST_TERMS],
     n: usize,
     spins: u32,
     row: u64,
@@ -33,8 +39,8 @@ fn deliver_noise(
     out_re: &mut [f64],
     out_im: &mut [f64],
 ) -> Delivery
-    requires { ⌜ n ≤ 64 ⌝ }
-    ensures { λ r. ⌜ ((w : List NoiseTerm) → MaskedPairs (now (lefts .entry)) (now (rights .entry)) (now (res .entry)) (now (ims .entry)) n w → Accepted spins (2 ^ spins * 2 ^ spins) row (itemsOf w) → Delivered (floatRow true (noiseContributions spins row w)) (saidDelivery r) (now («out_columns» .entry)) (now («out_columns» .exit)) (now («out_re» .entry)) (now («out_re» .exit)) (now («out_im» .entry)) (now («out_im» .exit))) ⌝ }
+    requires { ⌜ (n ≤ mostTerms) × (spins ≤ mostSpins) ⌝ }
+    ensures { λ r. ⌜ ((w : List NoiseTerm) → MaskedPairs (now (lefts .entry)) (now (rights .entry)) (now (res .entry)) (now (ims .entry)) n w → Accepted spins (2 ^ spins * 2 ^ spins) row (itemsOf w) → RowCall (gives (rowIn floats true (noiseContributions spins row w))) (saidDelivery r) (now («out_columns» .entry)) (now («out_columns» .exit)) (now («out_re» .entry)) (now («out_re» .exit)) (now («out_im» .entry)) (now («out_im» .exit))) ⌝ }
 {
     let mut columns = [0u64; 320];
     let mut re = [0.0f64; 320];
@@ -54,10 +60,10 @@ fn deliver_noise(
     deliver(&columns, &re, &im, count, true, out_columns, out_re, out_im)
 }
 
-// The row of a noise set's superoperator over `spins` spins: the columns with a contribution, zero sums kept. The set is looked at again only where
+// The row of a noise operator's superoperator over `spins` spins: the columns with a contribution, zero sums kept. The set is looked at again only where
 // a mask does not fit the spins.
 pub fn noise_row(
-    s: NoiseSet,
+    s: PauliLindbladNoiseOperator,
     spins: u32,
     row: u64,
     out_columns: &mut [u64],
@@ -66,7 +72,7 @@ pub fn noise_row(
 ) -> Delivery
     ensures { λ r. ⌜ RowCall (noiseRow s spins row) (saidDelivery r) (now («out_columns» .entry)) (now («out_columns» .exit)) (now («out_re» .entry)) (now («out_re» .exit)) (now («out_im» .entry)) (now («out_im» .exit)) ⌝ }
 {
-    let n = masked(s);
+    let n = masked(s.set);
     if !n.valid {
         return Delivery::Refused(Refusal::Malformed);
     }
@@ -79,7 +85,7 @@ pub fn noise_row(
     let lefts = n.lefts;
     let rights = n.rights;
     if !pairs_fit(&lefts, &rights, n.count, spins) {
-        if let Carried::Site(site) = of_noise(s, spins) {
+        if let Carried::Site(site) = of_noise(s.set, spins) {
             return Delivery::Refused(Refusal::SiteOutsideSpins(site));
         }
     }

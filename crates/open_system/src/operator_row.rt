@@ -2,23 +2,26 @@
 ghost use mathlib.Core.Path.{_≡_};
 ghost use mathlib.Core.Bool.{true, false};
 ghost use Prim.Native.Nat.{_*_, _^_};
+ghost use Rattle.refusal.specs.Refusals.{gives};
 ghost use Rattle.letters.specs.Matrices.{lettersOf};
 ghost use Rattle.products.specs.Record.{valid};
 ghost use Rattle.terms.specs.Keyed.{each};
-ghost use Rattle.rows.specs.Buffers.{Delivered, saidDelivery, floatRow};
+ghost use Rattle.rows.specs.Numbers.{floats};
+ghost use Rattle.rows.specs.Placing.{rowIn};
+ghost use Rattle.rows.specs.Buffers.{saidDelivery};
 ghost use Rattle.rows.specs.Calls.{RowCall};
 ghost use Rattle.operators.specs.Complexes.{heldBy};
 ghost use Rattle.open_system.specs.Accepted.{Accepted};
 ghost use Rattle.open_system.specs.OperatorRows.{itemsOf, operatorContributions, commutatorContributions, operatorRowOf, commutatorRowOf, operatorRow, commutatorRow, hamiltonianRow, hamiltonianCommutatorRow};
+use crate::complex_terms::complex_terms;
 use crate::contributions::write_commutator;
 use crate::contributions::write_operator;
 use crate::outside::of_operator;
 use crate::size_of;
 use letters::Kind;
 use operators::pauli_hamiltonian::PauliHamiltonian;
-use operators::pauli_hamiltonian::complex_terms;
+use operators::pauli_operator::PauliOperator;
 use operators::term_set::TermSet;
-use operators::term_set::is_valid;
 use products::row::MOST_SPINS;
 use refusal::Carried;
 use refusal::Refusal;
@@ -36,7 +39,7 @@ fn deliver_operator(
     out_im: &mut [f64],
 ) -> Delivery
     requires { ⌜ Accepted spins (2 ^ spins) row (itemsOf (heldBy s)) ⌝ }
-    ensures { λ r. ⌜ Delivered (floatRow true (operatorContributions (lettersOf kind) spins row (heldBy s))) (saidDelivery r) (now («out_columns» .entry)) (now («out_columns» .exit)) (now («out_re» .entry)) (now («out_re» .exit)) (now («out_im» .entry)) (now («out_im» .exit)) ⌝ }
+    ensures { λ r. ⌜ RowCall (gives (rowIn floats true (operatorContributions (lettersOf kind) spins row (heldBy s)))) (saidDelivery r) (now («out_columns» .entry)) (now («out_columns» .exit)) (now («out_re» .entry)) (now («out_re» .exit)) (now («out_im» .entry)) (now («out_im» .exit)) ⌝ }
 {
     let mut columns = [0u64; 320];
     let mut re = [0.0f64; 320];
@@ -55,7 +58,7 @@ fn deliver_commutator(
     out_im: &mut [f64],
 ) -> Delivery
     requires { ⌜ Accepted spins (2 ^ spins * 2 ^ spins) row (itemsOf (heldBy s)) ⌝ }
-    ensures { λ r. ⌜ Delivered (floatRow false (commutatorContributions spins row (heldBy s))) (saidDelivery r) (now («out_columns» .entry)) (now («out_columns» .exit)) (now («out_re» .entry)) (now («out_re» .exit)) (now («out_im» .entry)) (now («out_im» .exit)) ⌝ }
+    ensures { λ r. ⌜ RowCall (gives (rowIn floats false (commutatorContributions spins row (heldBy s)))) (saidDelivery r) (now («out_columns» .entry)) (now («out_columns» .exit)) (now («out_re» .entry)) (now («out_re» .exit)) (now («out_im» .entry)) (now («out_im» .exit)) ⌝ }
 {
     let mut columns = [0u64; 320];
     let mut re = [0.0f64; 320];
@@ -115,7 +118,7 @@ fn commutator_row_of(
 
 // The row of an operator's matrix over `spins` spins: the columns with a contribution, zero sums kept.
 pub fn operator_row(
-    s: TermSet,
+    s: PauliOperator,
     spins: u32,
     row: u64,
     out_columns: &mut [u64],
@@ -124,15 +127,23 @@ pub fn operator_row(
 ) -> Delivery
     ensures { λ r. ⌜ RowCall (operatorRow s spins row) (saidDelivery r) (now («out_columns» .entry)) (now («out_columns» .exit)) (now («out_re» .entry)) (now («out_re» .exit)) (now («out_im» .entry)) (now («out_im» .exit)) ⌝ }
 {
-    if !is_valid(true, s) {
+    if !s.is_valid() {
         return Delivery::Refused(Refusal::Malformed);
     }
-    operator_row_of(Kind::Pauli, s, spins, row, out_columns, out_re, out_im)
+    operator_row_of(
+        Kind::Pauli,
+        s.terms,
+        spins,
+        row,
+        out_columns,
+        out_re,
+        out_im,
+    )
 }
 
 // The row of -i(Hρ - ρH) for an operator H, as a matrix on the entries of ρ: zero sums absent.
 pub fn commutator_row(
-    s: TermSet,
+    s: PauliOperator,
     spins: u32,
     row: u64,
     out_columns: &mut [u64],
@@ -141,10 +152,10 @@ pub fn commutator_row(
 ) -> Delivery
     ensures { λ r. ⌜ RowCall (commutatorRow s spins row) (saidDelivery r) (now («out_columns» .entry)) (now («out_columns» .exit)) (now («out_re» .entry)) (now («out_re» .exit)) (now («out_im» .entry)) (now («out_im» .exit)) ⌝ }
 {
-    if !is_valid(true, s) {
+    if !s.is_valid() {
         return Delivery::Refused(Refusal::Malformed);
     }
-    commutator_row_of(s, spins, row, out_columns, out_re, out_im)
+    commutator_row_of(s.terms, spins, row, out_columns, out_re, out_im)
 }
 
 // The row of a Hamiltonian's matrix.

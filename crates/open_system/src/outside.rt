@@ -6,9 +6,11 @@ ghost use Prim.Native.Nat.{_≤_};
 ghost use lib.ListN.{length, take};
 ghost use Rattle.refusal.specs.Refusals.{carried};
 ghost use Rattle.products.specs.Record.{valid};
+ghost use Rattle.products.specs.Answers.{mostSpins};
 ghost use Rattle.products.specs.Masks.{masksOf};
 ghost use Rattle.products.specs.declared.items.Items.{Items};
 ghost use Rattle.terms.specs.Keyed.{each};
+ghost use Rattle.terms.specs.Setting.{mostTerms};
 ghost use Rattle.rows.specs.Calls.{outside};
 ghost use Rattle.operators.specs.Complexes as complexes;
 ghost use Rattle.operators.specs.declared.term_set.Term.{Term};
@@ -24,6 +26,7 @@ use operators::term_set::held_count;
 use products::row::MASK_SIZE;
 use products::row::reach_of;
 use refusal::Carried;
+use terms::MOST_TERMS;
 
 // Of an operator's terms.
 pub(crate) fn of_operator(s: TermSet, spins: u32) -> Carried
@@ -64,8 +67,8 @@ pub(crate) fn of_noise(s: NoiseSet, spins: u32) -> Carried
 }
 
 // Whether both halves of each of the first n masks are below 2^spins: then no valid product with these masks has a site at `spins` or above.
-pub(crate) fn fits(masks: &[u64; 64], n: usize, spins: u32) -> bool
-    requires { ⌜ (n ≤ 64) × (spins ≤ 31) ⌝ }
+pub(crate) fn fits(masks: &[u64; MOST_TERMS], n: usize, spins: u32) -> bool
+    requires { ⌜ (n ≤ mostTerms) × (spins ≤ mostSpins) ⌝ }
     ensures { λ r. ⌜ (r ≡ true → (ps : List Items) → each (λ p qs. valid p) ps ≡ true → length ps ≡ n → take n (now (masks .entry)) ≡ map masksOf ps → outside spins ps ≡ []) ⌝ }
 {
     let mut all: u64 = 0;
@@ -79,8 +82,13 @@ pub(crate) fn fits(masks: &[u64; 64], n: usize, spins: u32) -> bool
 }
 
 // The same of both sides of n noise terms.
-pub(crate) fn pairs_fit(lefts: &[u64; 64], rights: &[u64; 64], n: usize, spins: u32) -> bool
-    requires { ⌜ (n ≤ 64) × (spins ≤ 31) ⌝ }
+pub(crate) fn pairs_fit(
+    lefts: &[u64; MOST_TERMS],
+    rights: &[u64; MOST_TERMS],
+    n: usize,
+    spins: u32,
+) -> bool
+    requires { ⌜ (n ≤ mostTerms) × (spins ≤ mostSpins) ⌝ }
     ensures { λ r. ⌜ (r ≡ true → (w : List NoiseTerm) → each (λ p qs. valid p) (noise_rows.itemsOf w) ≡ true → length w ≡ n → take n (now (lefts .entry)) ≡ map (λ t. masksOf (t .left)) w → take n (now (rights .entry)) ≡ map (λ t. masksOf (t .right)) w → outside spins (noise_rows.itemsOf w) ≡ []) ⌝ }
 {
     fits(lefts, n, spins) && fits(rights, n, spins)
@@ -88,14 +96,14 @@ pub(crate) fn pairs_fit(lefts: &[u64; 64], rights: &[u64; 64], n: usize, spins: 
 
 // The same of m terms of a Hamiltonian and n noise terms.
 pub(crate) fn system_fits(
-    masks: &[u64; 64],
+    masks: &[u64; MOST_TERMS],
     m: usize,
-    lefts: &[u64; 64],
-    rights: &[u64; 64],
+    lefts: &[u64; MOST_TERMS],
+    rights: &[u64; MOST_TERMS],
     n: usize,
     spins: u32,
 ) -> bool
-    requires { ⌜ (m ≤ 64) × (n ≤ 64) × (spins ≤ 31) ⌝ }
+    requires { ⌜ (m ≤ mostTerms) × (n ≤ mostTerms) × (spins ≤ mostSpins) ⌝ }
     ensures { λ r. ⌜ (r ≡ true → (h : List Term) (w : List NoiseTerm) → each (λ p qs. valid p) (itemsOf h) ≡ true → each (λ p qs. valid p) (noise_rows.itemsOf w) ≡ true → length h ≡ m → take m (now (masks .entry)) ≡ map (λ t. masksOf (t .items)) h → length w ≡ n → take n (now (lefts .entry)) ≡ map (λ t. masksOf (t .left)) w → take n (now (rights .entry)) ≡ map (λ t. masksOf (t .right)) w → outside spins (system_rows.itemsOf h w) ≡ []) ⌝ }
 {
     fits(masks, m, spins) && pairs_fit(lefts, rights, n, spins)

@@ -9,3 +9,5 @@ pub mod CopyLaws
 pub mod ValidAnswers
 pub mod RealValidAnswers
 pub mod MaskLaws
+pub mod HamiltonianTheorems
+pub mod ReadingLaws

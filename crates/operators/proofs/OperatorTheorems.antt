@@ -58,10 +58,12 @@ pub add-theorem : (M : Letters) (n : ℕ) (k : Items) (a : G) (l : List (Items �
 unfolding matrixOf
 add-theorem M n k a l r c = weighted-added sameItems (λ p. matrix M n (letterAt p) r c) (respects M n r c) k a l
 
--- a chain's set has the matrix of the terms that were added
-chain-theorem : (M : Letters) (n : ℕ) (ts x : List (Items × G)) → addAll gaussianTerms ts [] ≡ some x → (r c : ℕ) → matrixOf M n x r c ≡ matrixOf M n ts r c
+-- terms added to the empty set, one after the other, have the matrix of the terms; so a Hamiltonian keeps its matrix as an operator
+-- (`intoOperator`)
+pub added-terms-theorem : (M : Letters) (n : ℕ) (ts x : List (Items × G)) → addAll gaussianTerms ts [] ≡ some x → (r c : ℕ)
+    → matrixOf M n x r c ≡ matrixOf M n ts r c
 unfolding matrixOf summed
-chain-theorem M n ts x e r c =
+added-terms-theorem M n ts x e r c =
     weighted-addAll sameItems (λ p. matrix M n (letterAt p) r c) (respects M n r c) ts [] x e ∙ 𝟘-⊕ (weighted (λ p. matrix M n (letterAt p) r c) ts)
 
 -- ---- chains
@@ -75,7 +77,7 @@ module _ (kind : Kind) (n : ℕ) where
       → addAll gaussianTerms (timesTerms gaussianTerms gaussianProducts (λ p q. multiplyAnswer M p q .1) l t) [] ≡ some x → (r c : ℕ)
       → matrixOf M n x r c ≡ Σ (2 ^ n) (λ m. matrixOf M n l r m ⊗ matrixOf M n t m c)
   times-theorem l t x hl ht e r c =
-      chain-theorem M n (timesTerms gaussianTerms gaussianProducts (λ p q. multiplyAnswer M p q .1) l t) x e r c
+      added-terms-theorem M n (timesTerms gaussianTerms gaussianProducts (λ p q. multiplyAnswer M p q .1) l t) x e r c
       ∙ (unfold matrixOf in
       weighted-times sameItems (λ p. matrix M n (letterAt p) r c) (Fits n) (λ p q. multiplyAnswer M p q .1) (λ p q. Σ (2 ^ n) (λ m. matrix M n (letterAt p) r m ⊗ matrix M n (letterAt q) m c))
       (λ p q hp hq.
@@ -88,7 +90,7 @@ module _ (kind : Kind) (n : ℕ) where
       → addAll gaussianTerms (conjugateTerms gaussianTerms gaussianProducts (λ p. conjugateAnswer M p .1) l) [] ≡ some x → (r c : ℕ)
       → matrixOf M n x r c ≡ conj (matrixOf M n l c r)
   conjugate-set-theorem l x hl e r c =
-      chain-theorem M n (conjugateTerms gaussianTerms gaussianProducts (λ p. conjugateAnswer M p .1) l) x e r c
+      added-terms-theorem M n (conjugateTerms gaussianTerms gaussianProducts (λ p. conjugateAnswer M p .1) l) x e r c
       ∙ (unfold matrixOf in
       weighted-conjugate sameItems (λ p. matrix M n (letterAt p) r c) (Fits n) (λ p. conjugateAnswer M p .1) (λ p. matrix M n (letterAt p) c r)
       (λ p hp. sym (conjugate-theorem kind p _ _ (conjugate-done M p (hp .0)) n (hp .1) r c)) l hl)
@@ -98,7 +100,7 @@ module _ (kind : Kind) (n : ℕ) where
       → addAll gaussianTerms (convertTerms gaussianTerms gaussianProducts (λ p. convertAnswer M (lettersOf (other kind)) p .1) l) [] ≡ some x → (r c : ℕ)
       → matrixOf (lettersOf (other kind)) n x r c ≡ matrixOf M n l r c
   convert-set-theorem l x hl e r c =
-      chain-theorem (lettersOf (other kind)) n (convertTerms gaussianTerms gaussianProducts (λ p. convertAnswer M (lettersOf (other kind)) p .1) l) x e r c
+      added-terms-theorem (lettersOf (other kind)) n (convertTerms gaussianTerms gaussianProducts (λ p. convertAnswer M (lettersOf (other kind)) p .1) l) x e r c
       ∙ (unfold matrixOf in
       weighted-convert sameItems (λ p. matrix (lettersOf (other kind)) n (letterAt p) r c) (Fits n) (λ p. convertAnswer M (lettersOf (other kind)) p .1)
       (λ p. matrix M n (letterAt p) r c)

@@ -23,7 +23,7 @@ use Rattle.operators.specs.declared.term_set.TermSet.{TermSet}
 use Rattle.operators.specs.declared.pauli_hamiltonian.RealTerm.{RealTerm}
 use Rattle.operators.specs.declared.pauli_hamiltonian.PauliHamiltonian.{PauliHamiltonian}
 use Rattle.operators.proofs.RealValidLaws.{validHamiltonians, valid-products}
-use Rattle.operators.proofs.ValidAnswers.{HasValid, chain-answer, times-products}
+use Rattle.operators.proofs.ValidAnswers.{HasValid, zeros-allowed, chain-answer, times-products}
 
 -- ---- one term
 
@@ -83,8 +83,12 @@ module _ (s t : PauliHamiltonian) where
       chain-answer (complexes.filled []) _ (times-products Kind.Pauli (map complexTerm (heldBy s)) (map complexTerm (heldBy t)) (complex-products s v) (complex-products t w))))
 
   -- an accepted product of two Hamiltonians is a valid operator and holds no zero
-  pub multiply-reals-valid : (x : TermSet) → multiplyReals s t ≡ (done, x) → complexes.validSet false x ≡ true
-  multiply-reals-valid = multiply-answer .holds tt
+  pub multiply-reals-nonzero : (x : TermSet) → multiplyReals s t ≡ (done, x) → complexes.validSet false x ≡ true
+  multiply-reals-nonzero = multiply-answer .holds tt
+
+  -- so number 0 of a `PauliOperator` lets it pass
+  pub multiply-reals-valid : (x : TermSet) → multiplyReals s t ≡ (done, x) → complexes.validSet true x ≡ true
+  multiply-reals-valid x e = zeros-allowed x (multiply-reals-nonzero x e)
 
   -- the empty operator stands beside a refusal
   pub multiply-reals-refused : (n : ℕ) (l : List ℕ) → multiplyReals s t .0 ≡ refuses n l → multiplyReals s t .1 ≡ complexes.filled []
@@ -96,8 +100,12 @@ module _ (s : PauliHamiltonian) where
   into-answer = answered-past (validSet s) _ _ _ (λ v. chain-answer (complexes.filled []) _ (complex-products s v))
 
   -- an accepted operator of a Hamiltonian is valid and holds no zero
-  pub into-operator-valid : (x : TermSet) → intoOperator s ≡ (done, x) → complexes.validSet false x ≡ true
-  into-operator-valid = into-answer .holds tt
+  pub into-operator-nonzero : (x : TermSet) → intoOperator s ≡ (done, x) → complexes.validSet false x ≡ true
+  into-operator-nonzero = into-answer .holds tt
+
+  -- so number 0 of a `PauliOperator` lets it pass
+  pub into-operator-valid : (x : TermSet) → intoOperator s ≡ (done, x) → complexes.validSet true x ≡ true
+  into-operator-valid x e = zeros-allowed x (into-operator-nonzero x e)
 
   -- the empty operator stands beside a refusal
   pub into-operator-refused : (n : ℕ) (l : List ℕ) → intoOperator s .0 ≡ refuses n l → intoOperator s .1 ≡ complexes.filled []

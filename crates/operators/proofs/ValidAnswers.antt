@@ -1,5 +1,5 @@
--- The answers of the entries on sets with complex coefficients: every accepted answer is a valid record, which a chain of additions leaves
--- without zeros, and beside a refusal stands the first record given, or the empty set for a conversion.
+-- The answers of the entries on sets with complex coefficients: number 0 of its own kind lets every accepted answer pass, a chain of additions
+-- leaves no zeros, and beside a refusal stands the first record given, or the empty set for a conversion.
 -- Assumes nothing.
 use Prim.Native.Nat.{ℕ}
 use native.Mathlib.Omega.{arith}
@@ -127,9 +127,13 @@ module _ (M : Letters) (zeros : Bool) (s t : TermSet) where
   multiply-sets-refused = multiply-answer (λ v w. chain-keeps s _) .kept
 
 -- an accepted product of two sets is valid and holds no zero
-pub multiply-sets-valid : (kind : Kind) (zeros : Bool) (s t x : TermSet) → multiplySets (lettersOf kind) zeros s t ≡ (done, x) → validSet false x ≡ true
-multiply-sets-valid kind zeros s t =
+pub multiply-sets-nonzero : (kind : Kind) (zeros : Bool) (s t x : TermSet) → multiplySets (lettersOf kind) zeros s t ≡ (done, x) → validSet false x ≡ true
+multiply-sets-nonzero kind zeros s t =
     multiply-answer (lettersOf kind) zeros s t (λ v w. chain-answer s _ (times-products kind (heldBy s) (heldBy t) (held-products zeros s v) (held-products zeros t w))) .holds tt
+
+-- so number 0 of its kind lets it pass
+pub multiply-sets-valid : (kind : Kind) (zeros : Bool) (s t x : TermSet) → multiplySets (lettersOf kind) zeros s t ≡ (done, x) → validSet zeros x ≡ true
+multiply-sets-valid kind zeros s t x e = valid-either zeros x (multiply-sets-nonzero kind zeros s t x e)
 
 -- ---- conjugation
 
@@ -150,10 +154,14 @@ module _ (M : Letters) (zeros : Bool) (s : TermSet) where
   conjugate-set-refused = conjugate-answer (λ v. chain-keeps s _) .kept
 
 -- an accepted conjugate is valid and holds no zero
-pub conjugate-set-valid : (kind : Kind) (zeros : Bool) (s x : TermSet) → conjugateSet (lettersOf kind) zeros s ≡ (done, x) → validSet false x ≡ true
+pub conjugate-set-nonzero : (kind : Kind) (zeros : Bool) (s x : TermSet) → conjugateSet (lettersOf kind) zeros s ≡ (done, x) → validSet false x ≡ true
 unfolding conjugateTerms
-conjugate-set-valid kind zeros s =
+conjugate-set-nonzero kind zeros s =
     conjugate-answer (lettersOf kind) zeros s (λ v. chain-answer s _ (all-results HasValid HasValid _ (λ y hy. conjugated-valid kind (y .items) hy) (heldBy s) (held-products zeros s v))) .holds tt
+
+-- so number 0 of its kind lets it pass
+pub conjugate-set-valid : (kind : Kind) (zeros : Bool) (s x : TermSet) → conjugateSet (lettersOf kind) zeros s ≡ (done, x) → validSet zeros x ≡ true
+conjugate-set-valid kind zeros s x e = valid-either zeros x (conjugate-set-nonzero kind zeros s x e)
 
 -- ---- conversion
 
@@ -164,23 +172,29 @@ converted-valid kind p v =
     let z = convertAnswer (lettersOf kind) (lettersOf (other kind)) p .1 in
     convert-valid kind p (z .0) (z .1) (rw v)
 
-module _ (M M′ : Letters) (s : TermSet) where
-  convert-answer : {P : TermSet → Type 0} → (validSet true s ≡ true → Answered P (filled []) (collected (filled []) (addAll complexTerms (conversions M M′ (heldBy s)) [])))
-      → Answered P (filled []) (convertSet M M′ s)
+module _ (M M′ : Letters) (zeros : Bool) (s : TermSet) where
+  convert-answer : {P : TermSet → Type 0} → (validSet zeros s ≡ true → Answered P (filled []) (collected (filled []) (addAll complexTerms (conversions M M′ (heldBy s)) [])))
+      → Answered P (filled []) (convertSet M M′ zeros s)
   unfolding convertSet
-  convert-answer h = answered-past (validSet true s) _ _ _ h
+  convert-answer h = answered-past (validSet zeros s) _ _ _ h
 
   -- the empty set stands beside a refusal
-  pub convert-set-refused : (n : ℕ) (l : List ℕ) → convertSet M M′ s .0 ≡ refuses n l → convertSet M M′ s .1 ≡ filled []
+  pub convert-set-refused : (n : ℕ) (l : List ℕ) → convertSet M M′ zeros s .0 ≡ refuses n l → convertSet M M′ zeros s .1 ≡ filled []
   convert-set-refused = convert-answer (λ v. chain-keeps (filled []) _) .kept
 
 -- an accepted conversion is valid and holds no zero
-pub convert-set-valid : (kind : Kind) (s x : TermSet) → convertSet (lettersOf kind) (lettersOf (other kind)) s ≡ (done, x) → validSet false x ≡ true
+pub convert-set-nonzero : (kind : Kind) (zeros : Bool) (s x : TermSet)
+    → convertSet (lettersOf kind) (lettersOf (other kind)) zeros s ≡ (done, x) → validSet false x ≡ true
 unfolding convertTerms
-convert-set-valid kind s =
-    convert-answer (lettersOf kind) (lettersOf (other kind)) s
-    (λ v. chain-answer (filled []) _ (all-results HasValid HasValid _ (λ y hy. converted-valid kind (y .items) hy) (heldBy s) (held-products true s v)))
+convert-set-nonzero kind zeros s =
+    convert-answer (lettersOf kind) (lettersOf (other kind)) zeros s
+    (λ v. chain-answer (filled []) _ (all-results HasValid HasValid _ (λ y hy. converted-valid kind (y .items) hy) (heldBy s) (held-products zeros s v)))
     .holds tt
+
+-- so number 0 lets it pass, whether its new kind may hold zeros or not
+pub convert-set-valid : (kind : Kind) (zeros zeros′ : Bool) (s x : TermSet)
+    → convertSet (lettersOf kind) (lettersOf (other kind)) zeros s ≡ (done, x) → validSet zeros′ x ≡ true
+convert-set-valid kind zeros zeros′ s x e = valid-either zeros′ x (convert-set-nonzero kind zeros s x e)
 
 -- ---- a multiple
 

@@ -25,7 +25,7 @@ use Rattle.operators.specs.declared.term_set.TermSetAnswer.{TermSetAnswe
 
 -- ---- one term
 
--- "`get` of a set answers the coefficient, zero where the key is free"
+-- the coefficient under a key, zero where it is free
 unfoldable pub getTerm : Bool → TermSet → Items → Said Complex
 getTerm zeros s k =
     cond (not (validSet zeros s)) (refuses 0 [])
@@ -71,10 +71,10 @@ conjugateSet M zeros s =
     cond (not (validSet zeros s)) (refuses 0 [], s)
     (collected s (addAll complexTerms (conjugateTerms complexTerms complexProducts (λ p. conjugateAnswer M p .1) (heldBy s)) []))
 
--- from a `PauliOperator`, which may hold zeros; the answer has another type, so the empty set stands beside a refusal
-unfoldable pub convertSet : Letters → Letters → TermSet → Said Unit × TermSet
-convertSet M M′ s =
-    cond (not (validSet true s)) (refuses 0 [], filled [])
+-- the answer has another type, so the empty set stands beside a refusal
+unfoldable pub convertSet : Letters → Letters → Bool → TermSet → Said Unit × TermSet
+convertSet M M′ zeros s =
+    cond (not (validSet zeros s)) (refuses 0 [], filled [])
     (collected (filled []) (addAll complexTerms (convertTerms complexTerms complexProducts (λ p. convertAnswer M M′ p .1) (heldBy s)) []))
 
 -- "`PauliOperator` times a number keeps every term, those that became zero too"

@@ -46,7 +46,7 @@ addReal s k a =
 unfoldable pub conjugateReal : PauliHamiltonian → Said Unit × PauliHamiltonian
 conjugateReal s = cond (not (validSet s)) (refuses 0 [], s) (done, s)
 
--- "Hamiltonian times Hamiltonian gives a PauliOperator"; the empty operator stands beside a refusal
+-- the product of two Hamiltonians, which is a PauliOperator; the empty operator stands beside a refusal
 unfoldable pub multiplyReals : PauliHamiltonian → PauliHamiltonian → Said Unit × TermSet
 multiplyReals s t =
     cond (not (validSet s)) (refuses 0 [], complexes.filled [])

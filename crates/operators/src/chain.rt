@@ -139,7 +139,7 @@ pub(crate) fn multiplied(kind: Kind, s: TermSet, t: TermSet) -> TermSetAnswer
 }
 
 // The product of two sets of one kind.
-pub fn multiply(kind: Kind, zeros: bool, s: TermSet, t: TermSet) -> TermSetAnswer
+pub(crate) fn multiply(kind: Kind, zeros: bool, s: TermSet, t: TermSet) -> TermSetAnswer
     ensures { λ r. ⌜ told r ≡ multiplySets (lettersOf kind) zeros s t ⌝ }
 {
     if !is_valid(zeros, s) {
@@ -183,7 +183,7 @@ fn conjugated(kind: Kind, s: TermSet) -> TermSetAnswer
 }
 
 // The conjugate transpose of a set.
-pub fn conjugate(kind: Kind, zeros: bool, s: TermSet) -> TermSetAnswer
+pub(crate) fn conjugate(kind: Kind, zeros: bool, s: TermSet) -> TermSetAnswer
     ensures { λ r. ⌜ told r ≡ conjugateSet (lettersOf kind) zeros s ⌝ }
 {
     if !is_valid(zeros, s) {
@@ -218,11 +218,11 @@ fn converted(kind: Kind, s: TermSet) -> TermSetAnswer
     out
 }
 
-// A set that may hold zeros in letters of the other kind.
-pub fn convert(kind: Kind, s: TermSet) -> TermSetAnswer
-    ensures { λ r. ⌜ told r ≡ convertSet (lettersOf kind) (lettersOf (other kind)) s ⌝ }
+// A set in letters of the other kind.
+pub(crate) fn convert(kind: Kind, zeros: bool, s: TermSet) -> TermSetAnswer
+    ensures { λ r. ⌜ told r ≡ convertSet (lettersOf kind) (lettersOf (other kind)) zeros s ⌝ }
 {
-    if !is_valid(true, s) {
+    if !is_valid(zeros, s) {
         return TermSetAnswer {
             outcome: Outcome::Refused(Refusal::Malformed),
             set: empty_set(),
@@ -253,7 +253,7 @@ fn scaled(s: TermSet, value: Complex) -> TermSet
 }
 
 // Every coefficient times a number; terms that become zero stay.
-pub fn scale(s: TermSet, value: Complex) -> TermSetAnswer
+pub(crate) fn scale(s: TermSet, value: Complex) -> TermSetAnswer
     ensures { λ r. ⌜ told r ≡ scaleSet s value ⌝ }
 {
     if !is_valid(true, s) {

@@ -1,9 +1,9 @@
 // Operators of Decoherence products: sums of products with complex coefficients.
 ghost use mathlib.Core.Path.{_≡_};
-ghost use mathlib.Core.Bool.{false};
+ghost use mathlib.Core.Bool.{true, false};
 ghost use mathlib.Core.List.{[]};
 ghost use Rattle.letters.specs.Matrices.{pauli, decoherence};
-ghost use Rattle.operators.specs.Complexes.{filled};
+ghost use Rattle.operators.specs.Complexes.{filled, validSet};
 ghost use Rattle.operators.specs.Answers.{saidGet, getTerm, setTerm, addTerm, multiplySets, conjugateSet, convertSet};
 ghost use Rattle.operators.specs.Kinds.{toldDecoherenceSet, toldDecoherence};
 use crate::pauli_operator::PauliOperator;
@@ -36,6 +36,14 @@ impl DecoherenceOperator {
     {
         let terms = crate::term_set::empty_set();
         DecoherenceOperator { terms: terms }
+    }
+
+    // Whether number 0 lets the operator pass.
+    pub fn is_valid(self) -> bool
+        ensures { λ r. ⌜ r ≡ validSet false (self .terms) ⌝ }
+    {
+        let s = self.terms;
+        crate::term_set::is_valid(false, s)
     }
 
     // The coefficient of a product, zero where there is none.
@@ -112,10 +120,10 @@ impl DecoherenceOperator {
 
     // A Pauli operator in decoherence letters.
     pub fn from_pauli_operator(operator: PauliOperator) -> DecoherenceOperatorAnswer
-        ensures { λ r. ⌜ toldDecoherence r ≡ convertSet pauli decoherence (operator .terms) ⌝ }
+        ensures { λ r. ⌜ toldDecoherence r ≡ convertSet pauli decoherence true (operator .terms) ⌝ }
     {
         let s = operator.terms;
-        let a = crate::chain::convert(Kind::Pauli, s);
+        let a = crate::chain::convert(Kind::Pauli, true, s);
         let outcome = a.outcome;
         let set = a.set;
         DecoherenceOperatorAnswer {

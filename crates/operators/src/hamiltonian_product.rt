@@ -14,7 +14,7 @@ use refusal::Outcome;
 use refusal::Refusal;
 
 // The product of two Hamiltonians.
-pub fn multiply(left: PauliHamiltonian, right: PauliHamiltonian) -> TermSetAnswer
+pub(crate) fn multiply(left: PauliHamiltonian, right: PauliHamiltonian) -> TermSetAnswer
     ensures { λ r. ⌜ told r ≡ multiplyReals left right ⌝ }
 {
     if !left.is_valid() {
@@ -35,7 +35,7 @@ pub fn multiply(left: PauliHamiltonian, right: PauliHamiltonian) -> TermSetAnswe
 }
 
 // A Hamiltonian as a complex operator.
-pub fn convert(hamiltonian: PauliHamiltonian) -> TermSetAnswer
+pub(crate) fn convert(hamiltonian: PauliHamiltonian) -> TermSetAnswer
     ensures { λ r. ⌜ told r ≡ intoOperator hamiltonian ⌝ }
 {
     if !hamiltonian.is_valid() {

@@ -1,7 +1,7 @@
 // Sets of terms: operators and Hamiltonians.
-pub mod chain;
+mod chain;
 pub mod decoherence_operator;
-pub mod hamiltonian_product;
+mod hamiltonian_product;
 mod numbers;
 pub mod pauli_hamiltonian;
 pub mod pauli_operator;

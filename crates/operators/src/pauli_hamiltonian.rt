@@ -6,7 +6,7 @@ ghost use lib.ListN.{drop};
 ghost use mathlib.Core.List.{[], map};
 ghost use Rattle.refusal.specs.Refusals.{gives};
 ghost use Rattle.terms.specs.Keyed.{firstAt, held, omitted};
-ghost use Rattle.terms.specs.Setting.{keyed, coefficientAt, write, hasRoom};
+ghost use Rattle.terms.specs.Setting.{mostTerms, keyed, coefficientAt, write, hasRoom};
 ghost use Rattle.operators.specs.Answers.{saidGet, saidSet};
 ghost use Rattle.operators.specs.Complexes as complexes;
 ghost use Rattle.operators.specs.Reals.{realTerms, complexOf, complexTerm, blank, heldBy, filled, validSet};
@@ -22,6 +22,7 @@ use products::items::Items;
 use products::pauli_product::PauliProduct;
 use refusal::Outcome;
 use refusal::Refusal;
+use terms::MOST_TERMS;
 
 pub struct RealTerm {
     pub items: Items,
@@ -30,7 +31,7 @@ pub struct RealTerm {
 
 pub struct PauliHamiltonian {
     pub count: usize,
-    pub terms: [RealTerm; 64],
+    pub terms: [RealTerm; MOST_TERMS],
 }
 
 pub struct HamiltonianAfterSet {
@@ -55,7 +56,7 @@ pub(crate) fn blank_term() -> RealTerm
 
 // The place of the first term with a key, from a place on; the count where there is none.
 pub(crate) fn find_from(s: PauliHamiltonian, from: usize, key: Items) -> usize
-    requires { ⌜ (s .count ≤ 64) × (from ≤ s .count) ⌝ }
+    requires { ⌜ (s .count ≤ mostTerms) × (from ≤ s .count) ⌝ }
     ensures { λ r. ⌜ r ≡ from + firstAt (keyed realTerms key) (drop from (heldBy s)) ⌝ }
 {
     let n = s.count;
@@ -120,7 +121,7 @@ pub(crate) fn put(s: PauliHamiltonian, key: Items, value: f64) -> Written
         };
         return Written { room: true, set: r };
     }
-    if 64 <= n {
+    if MOST_TERMS <= n {
         return Written {
             room: false,
             set: s,
@@ -136,7 +137,7 @@ pub(crate) fn put(s: PauliHamiltonian, key: Items, value: f64) -> Written
 
 // The coefficient under a key, zero where it is free.
 pub(crate) fn coefficient_at(s: PauliHamiltonian, key: Items) -> f64
-    requires { ⌜ s .count ≤ 64 ⌝ }
+    requires { ⌜ s .count ≤ mostTerms ⌝ }
     ensures { λ r. ⌜ r ≡ coefficientAt realTerms key (heldBy s) ⌝ }
 {
     let i = find_from(s, 0, key);
@@ -149,7 +150,7 @@ pub(crate) fn coefficient_at(s: PauliHamiltonian, key: Items) -> f64
 
 // What `set` answers of the key as it was.
 fn was(s: PauliHamiltonian, key: Items) -> SetAnswer
-    requires { ⌜ s .count ≤ 64 ⌝ }
+    requires { ⌜ s .count ≤ mostTerms ⌝ }
     ensures { λ r. ⌜ saidSet r ≡ gives (map (λ t. complexOf (t .coefficient)) (held (keyed realTerms key) (heldBy s))) ⌝ }
 {
     let i = find_from(s, 0, key);
@@ -161,7 +162,7 @@ fn was(s: PauliHamiltonian, key: Items) -> SetAnswer
 }
 
 // The terms with complex coefficients, each second part +0.
-pub fn complex_terms(s: PauliHamiltonian) -> TermSet
+pub(crate) fn complex_terms(s: PauliHamiltonian) -> TermSet
     ensures { λ r. ⌜ r ≡ complexes.filled (map complexTerm (heldBy s)) ⌝ }
 {
     let n = held_count(s.count);
@@ -190,7 +191,7 @@ impl PauliHamiltonian {
     {
         PauliHamiltonian {
             count: 0,
-            terms: [blank_term(); 64],
+            terms: [blank_term(); MOST_TERMS],
         }
     }
 

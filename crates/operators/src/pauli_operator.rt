@@ -3,7 +3,7 @@ ghost use mathlib.Core.Path.{_≡_};
 ghost use mathlib.Core.Bool.{true};
 ghost use mathlib.Core.List.{[]};
 ghost use Rattle.letters.specs.Matrices.{pauli};
-ghost use Rattle.operators.specs.Complexes.{filled};
+ghost use Rattle.operators.specs.Complexes.{filled, validSet};
 ghost use Rattle.operators.specs.Answers.{saidGet, getTerm, setTerm, addTerm, multiplySets, conjugateSet, scaleSet};
 ghost use Rattle.operators.specs.RealAnswers.{multiplyReals, intoOperator};
 ghost use Rattle.operators.specs.Kinds.{toldPauliSet, toldPauli};
@@ -37,6 +37,14 @@ impl PauliOperator {
     {
         let terms = crate::term_set::empty_set();
         PauliOperator { terms: terms }
+    }
+
+    // Whether number 0 lets the operator pass.
+    pub fn is_valid(self) -> bool
+        ensures { λ r. ⌜ r ≡ validSet true (self .terms) ⌝ }
+    {
+        let s = self.terms;
+        crate::term_set::is_valid(true, s)
     }
 
     // The coefficient of a product, zero where there is none.

@@ -6,7 +6,7 @@ ghost use lib.ListN.{drop};
 ghost use mathlib.Core.List.{[], map};
 ghost use Rattle.refusal.specs.Refusals.{gives};
 ghost use Rattle.terms.specs.Keyed.{firstAt, held, omitted};
-ghost use Rattle.terms.specs.Setting.{keyed, coefficientAt, write, hasRoom};
+ghost use Rattle.terms.specs.Setting.{mostTerms, keyed, coefficientAt, write, hasRoom};
 ghost use Rattle.operators.specs.Complexes.{complexTerms, blank, heldBy, filled, validSet};
 ghost use Rattle.operators.specs.Answers.{saidGet, saidSet, toldSet, told, getTerm, setTerm, addTerm};
 use crate::valid_terms::all_good;
@@ -15,6 +15,7 @@ use complex::Complex;
 use products::items::Items;
 use refusal::Outcome;
 use refusal::Refusal;
+use terms::MOST_TERMS;
 
 pub struct Term {
     pub items: Items,
@@ -23,7 +24,7 @@ pub struct Term {
 
 pub struct TermSet {
     pub count: usize,
-    pub terms: [Term; 64],
+    pub terms: [Term; MOST_TERMS],
 }
 
 // What a key's coefficient is.
@@ -65,20 +66,24 @@ pub fn empty_set() -> TermSet
 {
     TermSet {
         count: 0,
-        terms: [blank_term(); 64],
+        terms: [blank_term(); MOST_TERMS],
     }
 }
 
 // How many terms a set with such a count holds: at most as many as it has places.
 pub fn held_count(count: usize) -> usize
-    ensures { λ r. ⌜ r ≡ min count 64 ⌝ }
+    ensures { λ r. ⌜ r ≡ min count mostTerms ⌝ }
 {
-    if count < 64 { count } else { 64 }
+    if count < MOST_TERMS {
+        count
+    } else {
+        MOST_TERMS
+    }
 }
 
 // The place of the first term with a key, from a place on; the count where there is none.
 pub(crate) fn find_from(s: TermSet, from: usize, key: Items) -> usize
-    requires { ⌜ (s .count ≤ 64) × (from ≤ s .count) ⌝ }
+    requires { ⌜ (s .count ≤ mostTerms) × (from ≤ s .count) ⌝ }
     ensures { λ r. ⌜ r ≡ from + firstAt (keyed complexTerms key) (drop from (heldBy s)) ⌝ }
 {
     let n = s.count;
@@ -143,7 +148,7 @@ pub(crate) fn put(s: TermSet, key: Items, value: Complex) -> Written
         };
         return Written { room: true, set: r };
     }
-    if 64 <= n {
+    if MOST_TERMS <= n {
         return Written {
             room: false,
             set: s,
@@ -159,7 +164,7 @@ pub(crate) fn put(s: TermSet, key: Items, value: Complex) -> Written
 
 // The coefficient under a key, zero where it is free.
 pub(crate) fn coefficient_at(s: TermSet, key: Items) -> Complex
-    requires { ⌜ s .count ≤ 64 ⌝ }
+    requires { ⌜ s .count ≤ mostTerms ⌝ }
     ensures { λ r. ⌜ r ≡ coefficientAt complexTerms key (heldBy s) ⌝ }
 {
     let i = find_from(s, 0, key);
@@ -172,7 +177,7 @@ pub(crate) fn coefficient_at(s: TermSet, key: Items) -> Complex
 
 // What `set` answers of the key as it was.
 fn was(s: TermSet, key: Items) -> SetAnswer
-    requires { ⌜ s .count ≤ 64 ⌝ }
+    requires { ⌜ s .count ≤ mostTerms ⌝ }
     ensures { λ r. ⌜ saidSet r ≡ gives (map (λ t. t .coefficient) (held (keyed complexTerms key) (heldBy s))) ⌝ }
 {
     let i = find_from(s, 0, key);
@@ -185,10 +190,10 @@ fn was(s: TermSet, key: Items) -> SetAnswer
 }
 
 // Whether number 0 lets the set pass; only a `PauliOperator` may hold zeros.
-pub fn is_valid(zeros: bool, s: TermSet) -> bool
+pub(crate) fn is_valid(zeros: bool, s: TermSet) -> bool
     ensures { λ r. ⌜ r ≡ validSet zeros s ⌝ }
 {
-    if 64 < s.count {
+    if MOST_TERMS < s.count {
         return false;
     }
     if all_good(zeros, s) {
@@ -198,7 +203,7 @@ pub fn is_valid(zeros: bool, s: TermSet) -> bool
 }
 
 // The coefficient under a key.
-pub fn get(zeros: bool, s: TermSet, key: Items) -> GetAnswer
+pub(crate) fn get(zeros: bool, s: TermSet, key: Items) -> GetAnswer
     ensures { λ r. ⌜ saidGet r ≡ getTerm zeros s key ⌝ }
 {
     if !is_valid(zeros, s) {
@@ -211,7 +216,7 @@ pub fn get(zeros: bool, s: TermSet, key: Items) -> GetAnswer
 }
 
 // A coefficient set under a key; what was there before is answered.
-pub fn set(zeros: bool, s: TermSet, key: Items, value: Complex) -> TermSetAfterSet
+pub(crate) fn set(zeros: bool, s: TermSet, key: Items, value: Complex) -> TermSetAfterSet
     ensures { λ r. ⌜ toldSet r ≡ setTerm zeros s key value ⌝ }
 {
     if !is_valid(zeros, s) {
@@ -248,7 +253,7 @@ pub fn set(zeros: bool, s: TermSet, key: Items, value: Complex) -> TermSetAfterS
 }
 
 // A coefficient added to the one under a key.
-pub fn add(zeros: bool, s: TermSet, key: Items, value: Complex) -> TermSetAnswer
+pub(crate) fn add(zeros: bool, s: TermSet, key: Items, value: Complex) -> TermSetAnswer
     ensures { λ r. ⌜ told r ≡ addTerm zeros s key value ⌝ }
 {
     if !is_valid(zeros, s) {

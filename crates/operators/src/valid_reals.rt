@@ -6,19 +6,21 @@ ghost use lib.Ieee.{eq};
 ghost use lib.ListN.{drop};
 ghost use Rattle.complex.specs.Complex.{plusZero, partInRange};
 ghost use Rattle.terms.specs.Keyed.{each};
+ghost use Rattle.terms.specs.Setting.{mostTerms};
 ghost use Rattle.operators.specs.Reals.{heldBy, goodTerm, isBlank};
 ghost use Rattle.operators.specs.RealMasks.{heldMasks, noMasks, realMasks};
 use crate::numbers::is_new_marked;
 use crate::numbers::mark_of;
 use crate::pauli_hamiltonian::PauliHamiltonian;
 use crate::pauli_hamiltonian::RealTerm;
+use terms::MOST_TERMS;
 
 // What number 0 says of a Hamiltonian; of a valid one its count, and each term's masks and coefficient.
 pub struct RealMasks {
     pub valid: bool,
     pub count: usize,
-    pub masks: [u64; 64],
-    pub parts: [f64; 64],
+    pub masks: [u64; MOST_TERMS],
+    pub parts: [f64; MOST_TERMS],
 }
 
 // Whether a record is the zero record.
@@ -49,20 +51,20 @@ fn refused() -> RealMasks
     RealMasks {
         valid: false,
         count: 0,
-        masks: [0; 64],
-        parts: [0.0; 64],
+        masks: [0; MOST_TERMS],
+        parts: [0.0; MOST_TERMS],
     }
 }
 
 // The held terms' masks and coefficients, where every held term is good. Good terms with one number have one key, so a number
 // that repeats is refused.
 fn gathered(s: PauliHamiltonian) -> RealMasks
-    requires { ⌜ s .count ≤ 64 ⌝ }
+    requires { ⌜ s .count ≤ mostTerms ⌝ }
     ensures { λ r. ⌜ r ≡ cond (each goodTerm (heldBy s)) (heldMasks s) noMasks ⌝ }
 {
     let n = s.count;
-    let mut masks = [0u64; 64];
-    let mut parts = [0.0; 64];
+    let mut masks = [0u64; MOST_TERMS];
+    let mut parts = [0.0; MOST_TERMS];
     let mut marks = [0u8; 256];
     let mut i: usize = 0;
     while i < n {
@@ -95,11 +97,11 @@ fn gathered(s: PauliHamiltonian) -> RealMasks
 
 // Whether zero records stand past the count.
 fn blanks_past(s: PauliHamiltonian) -> bool
-    requires { ⌜ s .count ≤ 64 ⌝ }
+    requires { ⌜ s .count ≤ mostTerms ⌝ }
     ensures { λ r. ⌜ r ≡ each (λ t ts. isBlank t) (drop (s .count) (s .terms)) ⌝ }
 {
     let mut i = s.count;
-    while i < 64 {
+    while i < MOST_TERMS {
         let t = s.terms[i];
         if !is_blank(t) {
             return false;
@@ -114,10 +116,10 @@ pub fn masked(s: PauliHamiltonian) -> RealMasks
     ensures { λ r. ⌜ r ≡ realMasks s ⌝ }
 {
     let n = s.count;
-    if 64 < n {
+    if MOST_TERMS < n {
         return refused();
     }
-    if n < 64 {
+    if n < MOST_TERMS {
         if !blanks_past(s) {
             return refused();
         }

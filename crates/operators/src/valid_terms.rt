@@ -5,12 +5,14 @@ ghost use Prim.Native.Nat.{_≤_};
 ghost use lib.ListN.{drop};
 ghost use Rattle.complex.specs.Complex.{isZero, inRange};
 ghost use Rattle.terms.specs.Keyed.{each};
+ghost use Rattle.terms.specs.Setting.{mostTerms};
 ghost use Rattle.operators.specs.Complexes.{heldBy, goodTerm, isBlank};
 use crate::numbers::is_new_marked;
 use crate::numbers::mark_of;
 use crate::term_set::Term;
 use crate::term_set::TermSet;
 use complex::Complex;
+use terms::MOST_TERMS;
 
 // Whether a record is the zero record.
 fn is_blank(t: Term) -> bool
@@ -42,11 +44,11 @@ fn good_coefficient(zeros: bool, c: Complex) -> bool
 // Whether every held term is as a valid set holds it. Terms with different numbers have different keys, and good terms with one number
 // have one key.
 pub(crate) fn all_good(zeros: bool, s: TermSet) -> bool
-    requires { ⌜ s .count ≤ 64 ⌝ }
+    requires { ⌜ s .count ≤ mostTerms ⌝ }
     ensures { λ r. ⌜ r ≡ each (goodTerm zeros) (heldBy s) ⌝ }
 {
     let n = s.count;
-    let mut numbers = [0u64; 64];
+    let mut numbers = [0u64; MOST_TERMS];
     let mut marks = [0u8; 256];
     let mut i: usize = 0;
     while i < n {
@@ -74,11 +76,11 @@ pub(crate) fn all_good(zeros: bool, s: TermSet) -> bool
 
 // Whether zero records stand past the count.
 pub(crate) fn blanks_past(s: TermSet) -> bool
-    requires { ⌜ s .count ≤ 64 ⌝ }
+    requires { ⌜ s .count ≤ mostTerms ⌝ }
     ensures { λ r. ⌜ r ≡ each (λ t ts. isBlank t) (drop (s .count) (s .terms)) ⌝ }
 {
     let mut i = s.count;
-    while i < 64 {
+    while i < MOST_TERMS {
         let t = s.terms[i];
         if !is_blank(t) {
             return false;

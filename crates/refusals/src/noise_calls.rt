@@ -4,7 +4,6 @@ use crate::records::product;
 use crate::records::targets;
 use crate::records::value;
 use crate::report::told;
-use crate::report::told_anew;
 use crate::same::same_hamiltonian;
 use crate::same::same_noise;
 use crate::set_calls::answered;
@@ -15,10 +14,9 @@ use crate::set_records::pairs;
 use crate::set_records::set;
 use complex::Complex;
 use noise::noise_set::NoiseSet;
-use noise::noise_set::empty_set;
 use noise::pauli_noise_operator::NoiseOperatorAnswer;
 use noise::pauli_noise_operator::PauliLindbladNoiseOperator;
-use open_system::PauliOpenSystem;
+use open_system::PauliLindbladOpenSystem;
 use operators::pauli_hamiltonian::PauliHamiltonian;
 use operators::term_set::TermSet;
 use products::items::Items;
@@ -61,17 +59,18 @@ fn remap_qubits(w: NoiseSet, t: [u8; 31]) {
     noise_told(w, noise_operator(w).remap_qubits(t));
 }
 
-fn is_empty(s: PauliOpenSystem) -> bool {
-    if same_hamiltonian(PauliHamiltonian::new(), s.system) {
-        return same_noise(empty_set(), s.noise.set);
+// Whether a system's parts are these.
+fn made_of(s: PauliLindbladOpenSystem, h: PauliHamiltonian, w: NoiseSet) -> bool {
+    if same_hamiltonian(h, s.system) {
+        return same_noise(w, s.noise.set);
     }
     false
 }
 
 fn group(h: PauliHamiltonian, w: NoiseSet) {
-    let r = PauliOpenSystem::group(h, noise_operator(w));
+    let r = PauliLindbladOpenSystem::group(h, noise_operator(w));
     let outcome = r.outcome;
-    told_anew(outcome, is_empty(r.system));
+    told(outcome, made_of(r.system, h, w));
 }
 
 pub(crate) fn call(a: [u64; 26]) {

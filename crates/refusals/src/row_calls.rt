@@ -3,11 +3,12 @@ ghost use Prim.Native.Nat.{_≤_};
 use crate::noise_calls::noise_operator;
 use crate::records::narrow;
 use crate::report::print_refusal;
+use crate::set_calls::pauli_operator;
 use crate::set_records::hamiltonian;
 use crate::set_records::pairs;
 use crate::set_records::set;
 use noise::noise_set::NoiseSet;
-use open_system::PauliOpenSystem;
+use open_system::PauliLindbladOpenSystem;
 use open_system::exact_row::exact_row;
 use open_system::noise_row::noise_row;
 use open_system::operator_row::commutator_row;
@@ -32,10 +33,10 @@ fn within(n: usize) -> usize
 }
 
 // The terms as a Hamiltonian, with noise.
-fn system(s: TermSet, w: NoiseSet) -> PauliOpenSystem {
+fn system(s: TermSet, w: NoiseSet) -> PauliLindbladOpenSystem {
     let h = hamiltonian(s);
     let n = noise_operator(w);
-    PauliOpenSystem {
+    PauliLindbladOpenSystem {
         system: h,
         noise: n,
     }
@@ -45,7 +46,7 @@ fn system(s: TermSet, w: NoiseSet) -> PauliOpenSystem {
 fn called(
     entry: u64,
     s: TermSet,
-    x: PauliOpenSystem,
+    x: PauliLindbladOpenSystem,
     spins: u32,
     row: u64,
     columns: &mut [u64],
@@ -53,11 +54,11 @@ fn called(
     im: &mut [f64],
 ) -> Delivery {
     match entry {
-        50 => operator_row(s, spins, row, columns, re, im),
-        51 => commutator_row(s, spins, row, columns, re, im),
+        50 => operator_row(pauli_operator(s), spins, row, columns, re, im),
+        51 => commutator_row(pauli_operator(s), spins, row, columns, re, im),
         52 => hamiltonian_row(x.system, spins, row, columns, re, im),
         53 => hamiltonian_commutator_row(x.system, spins, row, columns, re, im),
-        54 => noise_row(x.noise.set, spins, row, columns, re, im),
+        54 => noise_row(x.noise, spins, row, columns, re, im),
         _ => open_system::row(x, spins, row, columns, re, im),
     }
 }
@@ -136,7 +137,7 @@ fn delivered(d: Delivery, same: bool) {
 fn float_row(
     entry: u64,
     s: TermSet,
-    x: PauliOpenSystem,
+    x: PauliLindbladOpenSystem,
     spins: u32,
     row: u64,
     p: usize,
@@ -163,7 +164,7 @@ fn float_row(
 }
 
 // A row in halves.
-fn halves_row(s: PauliOpenSystem, spins: u32, row: u64, p: usize, q: usize, r: usize) {
+fn halves_row(s: PauliLindbladOpenSystem, spins: u32, row: u64, p: usize, q: usize, r: usize) {
     let mut columns = [OLD_COLUMN; 16];
     let mut re = [OLD_HALVES; 16];
     let mut im = [OLD_HALVES; 16];

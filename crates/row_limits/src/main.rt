@@ -13,7 +13,7 @@ use systems::worked;
 
 // No spins, too many spins, and the case of one spin that is worked out by hand.
 fn few_spins() {
-    let none = open_system::PauliOpenSystem::new();
+    let none = open_system::PauliLindbladOpenSystem::new();
     named(b"no spins, row 0");
     lent(none, 0, 0, 4, 4, 4);
     named(b"no spins, row 1");

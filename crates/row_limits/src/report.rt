@@ -1,6 +1,6 @@
 // What a row call delivers into lent buffers, printed on one line.
 ghost use Prim.Native.Nat.{_≤_};
-use open_system::PauliOpenSystem;
+use open_system::PauliLindbladOpenSystem;
 use refusal::Carried;
 use refusal::Refusal;
 use rows::Delivery;
@@ -166,7 +166,7 @@ fn print_count(columns: &[u64; 324], re: &[f64; 324], im: &[f64; 324], n: usize)
 
 // A row call with buffers of p, q and r places, printed; the count.
 pub(crate) fn lent(
-    s: PauliOpenSystem,
+    s: PauliLindbladOpenSystem,
     spins: u32,
     row: u64,
     p: usize,

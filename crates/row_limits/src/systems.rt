@@ -1,9 +1,9 @@
 // The systems whose rows are run.
 use complex::Complex;
-use noise::noise_set::NoiseSet;
 use noise::pauli_noise_operator::PauliLindbladNoiseOperator;
-use open_system::PauliOpenSystem;
+use open_system::PauliLindbladOpenSystem;
 use operators::pauli_hamiltonian::PauliHamiltonian;
+use products::decoherence_product::DecoherenceProduct;
 use products::items::Items;
 use products::pauli_product::PauliProduct;
 
@@ -49,8 +49,8 @@ fn full_hamiltonian() -> PauliHamiltonian {
 }
 
 // 64 pairs with the coefficients 2 + 254i, 4 + 252i, to 128 + 128i.
-fn full_noise() -> NoiseSet {
-    let mut s = noise::noise_set::empty_set();
+fn full_noise() -> PauliLindbladNoiseOperator {
+    let mut s = PauliLindbladNoiseOperator::new();
     let mut value = 2.0;
     let mut i: u8 = 0;
     while i < 64 {
@@ -60,61 +60,73 @@ fn full_noise() -> NoiseSet {
             re: value,
             im: 256.0 - value,
         };
-        let a = noise::noise_set::set(s, p, q, z);
-        s = a.set;
+        let a = s.set(
+            DecoherenceProduct { items: p },
+            DecoherenceProduct { items: q },
+            z,
+        );
+        s = a.operator;
         value = value + 2.0;
         i += 1;
     }
     s
 }
 
+// One pair with a coefficient.
+fn single_noise(left: Items, right: Items, value: Complex) -> PauliLindbladNoiseOperator {
+    let a = PauliLindbladNoiseOperator::new().set(
+        DecoherenceProduct { items: left },
+        DecoherenceProduct { items: right },
+        value,
+    );
+    a.operator
+}
+
 // As many terms as a system holds, and no two of the contributions to a row in one column.
-pub(crate) fn full() -> PauliOpenSystem {
+pub(crate) fn full() -> PauliLindbladOpenSystem {
     let h = full_hamiltonian();
     let s = full_noise();
-    PauliOpenSystem {
+    PauliLindbladOpenSystem {
         system: h,
-        noise: PauliLindbladNoiseOperator { set: s },
+        noise: s,
     }
 }
 
 // 3 times Z0, with the noise (X0, X0), 2.
-pub(crate) fn worked() -> PauliOpenSystem {
+pub(crate) fn worked() -> PauliLindbladOpenSystem {
     let z = single(0, 3);
     let x = single(0, 1);
     let a = PauliHamiltonian::new().set(PauliProduct { items: z }, 3.0);
     let two = Complex { re: 2.0, im: 0.0 };
-    let b = noise::noise_set::set(noise::noise_set::empty_set(), x, x, two);
     let h = a.set;
-    let s = b.set;
-    PauliOpenSystem {
+    let s = single_noise(x, x, two);
+    PauliLindbladOpenSystem {
         system: h,
-        noise: PauliLindbladNoiseOperator { set: s },
+        noise: s,
     }
 }
 
 // X on one site, without noise.
-pub(crate) fn at_site(site: u8) -> PauliOpenSystem {
+pub(crate) fn at_site(site: u8) -> PauliLindbladOpenSystem {
     let x = single(site, 1);
     let a = PauliHamiltonian::new().set(PauliProduct { items: x }, 5.0);
     let h = a.set;
-    let s = noise::noise_set::empty_set();
-    PauliOpenSystem {
+    let s = PauliLindbladNoiseOperator::new();
+    PauliLindbladOpenSystem {
         system: h,
-        noise: PauliLindbladNoiseOperator { set: s },
+        noise: s,
     }
 }
 
 // The noise (X0, X) with its right side on a site, 6, without a Hamiltonian.
-pub(crate) fn noise_at_site(site: u8) -> PauliOpenSystem {
+pub(crate) fn noise_at_site(site: u8) -> PauliLindbladOpenSystem {
     let x = single(0, 1);
     let y = single(site, 1);
     let six = Complex { re: 6.0, im: 0.0 };
-    let a = noise::noise_set::set(noise::noise_set::empty_set(), x, y, six);
     let h = PauliHamiltonian::new();
-    let s = a.set;
-    PauliOpenSystem {
+    let s = single_noise(x, y, six);
+    PauliLindbladOpenSystem {
         system: h,
-        noise: PauliLindbladNoiseOperator { set: s },
+        noise: s,
     }
 }

@@ -10,9 +10,10 @@ use lib.ListN.{length, getD, set, take, length-set, length-append}
 use lib.Seq.{slice, slice-cons, getD-set-same, getD-set-other}
 use lib.Ieee.{Float}
 use Rattle.complex.specs.declared.Complex.{Complex}
-use Rattle.rows.specs.Placing.{rowOf, nonzero}
+use Rattle.rows.specs.Numbers.{Numbers}
+use Rattle.rows.specs.Placing.{nonzero, keptBy, rowIn}
 use Rattle.rows.specs.Sorting.{Places, sorted, addedFrom, neighboursAdded, upTo}
-use Rattle.rows.specs.Buffers.{TwoParts, floatParts, Long, valueIn, entryIn, entriesIn, entries, keptBy}
+use Rattle.rows.specs.Buffers.{TwoParts, floatParts, Long, valueIn, entryIn, entriesIn, entries}
 use Rattle.rows.proofs.SortLaws.{map-sorted}
 use Rattle.rows.proofs.NeighbourLaws.{columnOf, added-same, added-next, added-last, added-sorted}
 use Rattle.rows.proofs.RunLaws.{slice-none}
@@ -186,11 +187,12 @@ module _ {N X : Type 0} {P : TwoParts N X} {sum : N → N → N} {isZero : N →
 -- ---- the row
 
 -- what the sorted places add up to is the row
-pub collected-row : {N X : Type 0} (P : TwoParts N X) (sum : N → N → N) (isZero : N → Bool) (cs : List ℕ) (xs ys : List X) (places : List ℕ) (n : ℕ) (zeros : Bool)
-    → take n places ≡ sorted (λ p. getD cs p 0) (upTo n) → addedUp P sum isZero cs xs ys places n zeros ≡ keptBy isZero zeros (rowOf sum (entriesIn P cs xs ys n))
-collected-row {N} P sum isZero cs xs ys places n zeros e =
-    ap (keptBy isZero zeros)
-    (ap (λ (l : List ℕ). neighboursAdded sum (map (entryIn P cs xs ys) l)) e
-    ∙ ap (neighboursAdded sum) (map-sorted columnOf (entryIn P cs xs ys) (upTo n))
-    ∙ ap (λ (l : List (ℕ × N)). neighboursAdded sum (sorted columnOf l)) (entriesIn-map P cs xs ys n)
-    ∙ added-sorted sum (entriesIn P cs xs ys n))
+pub collected-row : {C N X : Type 0} (A : Numbers C N) (P : TwoParts N X) (cs : List ℕ) (xs ys : List X) (places : List ℕ) (n : ℕ) (zeros : Bool)
+    → take n places ≡ sorted (λ p. getD cs p 0) (upTo n) → addedUp P (A .sum) (A .isZero) cs xs ys places n zeros ≡ rowIn A zeros (entriesIn P cs xs ys n)
+unfolding rowIn
+collected-row {C} {N} A P cs xs ys places n zeros e =
+    ap (keptBy (A .isZero) zeros)
+    (ap (λ (l : List ℕ). neighboursAdded (A .sum) (map (entryIn P cs xs ys) l)) e
+    ∙ ap (neighboursAdded (A .sum)) (map-sorted columnOf (entryIn P cs xs ys) (upTo n))
+    ∙ ap (λ (l : List (ℕ × N)). neighboursAdded (A .sum) (sorted columnOf l)) (entriesIn-map P cs xs ys n)
+    ∙ added-sorted (A .sum) (entriesIn P cs xs ys n))

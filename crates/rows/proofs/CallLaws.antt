@@ -1,32 +1,35 @@
--- A row that is delivered, and a call that is refused, as row calls; the tests of a call in their order.
+-- A call that is refused, and one whose contributions are judged first, as row calls; the tests of a call in their order.
 -- Assumes nothing.
 use mathlib.Core.Path.{_≡_, refl, _∙_, subst}
 use mathlib.Core.Bool.{Bool, true, false, not, cond}
 use mathlib.Core.List.{List, [], _∷_}
 use Prim.Native.Nat.{ℕ, _+_, _*_, _^_, _≤_, _<_}
 use native.Mathlib.Omega.{arith}
-use lib.Ieee.{Float}
 use lib.Pow.{pow-add}
 use borrow.Author.Tests.{lt-ltb, le-ltb, le-leb, lt-leb}
 use Rattle.refusal.specs.Refusals.{Said, gives, refuses}
-use Rattle.complex.specs.declared.Complex.{Complex}
 use Rattle.products.specs.Answers.{mostSpins}
 use Rattle.products.specs.declared.items.Items.{Items}
-use Rattle.rows.specs.Buffers.{TwoParts, DeliveredIn, Delivered, Answered, mostEntries, floatRow}
-use Rattle.rows.specs.Calls.{countOf, after, RowCallIn, outside, unlessOutside, checkedRow}
-
-pub call-delivered : {N X : Type 0} {P : TwoParts N X} {l : List (ℕ × N)} {r : Said ℕ} {a a′ : List ℕ} {b b′ c c′ : List X} → DeliveredIn P l r a a′ b b′ c c′ → RowCallIn P (gives l) r a a′ b b′ c c′
-unfolding countOf after
-call-delivered d = record { answer = d .answer; columns = d .columns; reals = d .reals; imaginaries = d .imaginaries }
+use Rattle.rows.specs.Buffers.{TwoParts}
+use Rattle.rows.specs.Calls.{countOf, after, RowCallIn, outside, unlessOutside, checkedRow, unlessMalformed}
 
 pub call-refused : {N X : Type 0} {P : TwoParts N X} (k : ℕ) (s : List ℕ) (a : List ℕ) (b c : List X) → RowCallIn P (refuses k s) (refuses k s) a a b b c c
 unfolding countOf after
 call-refused k s a b c = record { answer = refl; columns = refl; reals = refl; imaginaries = refl }
 
--- what is delivered of k entries that are the contributions l′
-pub delivered : {k : ℕ} (zeros : Bool) {l l′ : List (ℕ × Complex)} {r : Said ℕ} {a a′ : List ℕ} {b b′ c c′ : List Float} → k ≤ mostEntries → l ≡ l′
-    → Answered k (floatRow zeros l) r a a′ b b′ c c′ → Delivered (floatRow zeros l′) r a a′ b b′ c c′
-delivered zeros {l} {l′} {r} {a} {a′} {b} {b′} {c} {c′} h e d = subst (λ (x : List (ℕ × Complex)). Delivered (floatRow zeros x) r a a′ b b′ c c′) e (d .within h)
+-- contributions that are not as they ought to be, and such that are: the row l of what is handed in is the row m
+module _ {N X : Type 0} {P : TwoParts N X} {good : Bool} {a : List ℕ} {b c : List X} where
+  pub contributions-refused : (l : List (ℕ × N)) → good ≡ false → RowCallIn P (unlessMalformed good l) (refuses 0 []) a a b b c c
+  unfolding unlessMalformed
+  contributions-refused l e = rw e (call-refused 0 [] a b c)
+
+  pub contributions-taken : {l m : List (ℕ × N)} {r : Said ℕ} {a′ : List ℕ} {b′ c′ : List X} → good ≡ true → m ≡ l → RowCallIn P (gives m) r a a′ b b′ c c′ → RowCallIn P (unlessMalformed good l) r a a′ b b′ c c′
+  unfolding unlessMalformed
+  contributions-taken e f d = rw (e, ← f) d
+
+  pub row-given : {l m : List (ℕ × N)} {r : Said ℕ} {a′ : List ℕ} {b′ c′ : List X} → good ≡ true → l ≡ m → RowCallIn P (unlessMalformed good l) r a a′ b b′ c c′ → RowCallIn P (gives m) r a a′ b b′ c c′
+  unfolding unlessMalformed
+  row-given e f d = rw (e, f) at d
 
 -- ---- the tests of a row call over n spins, in their order; `size` is the count of rows that the code finds
 
@@ -49,9 +52,9 @@ module _ {N X : Type 0} {P : TwoParts N X} (n rows r : ℕ) (ps : List Items) (l
       call-outside {site} o = rw (le-ltb mostSpins n h, lt-leb rows r (omega arith), ← o) (call-refused 8 (site ∷ []) a b c)
 
       -- the row
-      pub call-row : [] ≡ outside n ps → {x : Said ℕ} {a′ : List ℕ} {b′ c′ : List X} → DeliveredIn P l x a a′ b b′ c c′ → RowCallIn P (checkedRow n rows r ps l) x a a′ b b′ c c′
+      pub call-row : [] ≡ outside n ps → {x : Said ℕ} {a′ : List ℕ} {b′ c′ : List X} → RowCallIn P (gives l) x a a′ b b′ c c′ → RowCallIn P (checkedRow n rows r ps l) x a a′ b b′ c c′
       unfolding checkedRow unlessOutside
-      call-row o d = rw (le-ltb mostSpins n h, lt-leb rows r (omega arith), ← o) (call-delivered d)
+      call-row o d = rw (le-ltb mostSpins n h, lt-leb rows r (omega arith), ← o) d
 
 -- number 0 comes first
 pub call-malformed : {N X : Type 0} {P : TwoParts N X} (good : Bool) (x : Said (List (ℕ × N))) (a : List ℕ) (b c : List X) → good ≡ false → RowCallIn P (cond (not good) (refuses 0 []) x) (refuses 0 []) a a b b c c

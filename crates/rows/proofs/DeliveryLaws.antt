@@ -6,12 +6,15 @@ use native.Mathlib.Omega.{arith}
 use mathlib.Core.Path.{_≡_, refl, sym, ap, _∙_}
 use mathlib.Core.Bool.{true, false, and-false}
 use mathlib.Core.List.{List, [], _∷_, _++_, map, map-append}
+use lib.Dec.{leb}
 use lib.ListN.{length, getD, set, take, drop, length-set}
 use lib.Seq.{drop-cons, set-at, append-snoc, take-suc, length-take-le}
 use borrow.Author.Tests.{le-leb, lt-leb}
 use Rattle.refusal.specs.Refusals.{Said, gives, refuses}
-use Rattle.rows.specs.Buffers.{TwoParts, Long, entryIn, entriesIn, roomFor, DeliveredIn, AnsweredIn}
+use Rattle.rows.specs.Buffers.{TwoParts, Long, entryIn, entriesIn, mostEntries, roomFor}
+use Rattle.rows.specs.Calls.{countOf, after, unlessMalformed, RowCallIn}
 use Rattle.rows.proofs.ArrayLaws.{Faithful, length-entriesIn}
+use Rattle.rows.proofs.CallLaws.{contributions-refused, contributions-taken, row-given}
 
 module _ {A : Type 0} where
   -- ---- the loop that copies the first n elements of s over those of d
@@ -60,24 +63,26 @@ parts P f cs xs ys l z (suc n) h e =
 
 -- ---- what a call answers
 
-too-short : {N X : Type 0} {P : TwoParts N X} (l : List (ℕ × N)) (a : List ℕ) (b c : List X) → roomFor (length l) a b c ≡ false → DeliveredIn P l (refuses 10 []) a a b b c c
+too-short : {N X : Type 0} {P : TwoParts N X} (l : List (ℕ × N)) (a : List ℕ) (b c : List X) → roomFor (length l) a b c ≡ false → RowCallIn P (gives l) (refuses 10 []) a a b b c c
+unfolding countOf after
 too-short l a b c e = record { answer = rw e; columns = rw e; reals = rw e; imaginaries = rw e }
 
 -- a buffer that is too short, each of the three
 module _ {N X : Type 0} (P : TwoParts N X) (cs : List ℕ) (xs ys : List X) (n : ℕ) (a : List ℕ) (b c : List X) where
-  pub short-columns : length a < n → DeliveredIn P (entriesIn P cs xs ys n) (refuses 10 []) a a b b c c
+  pub short-columns : length a < n → RowCallIn P (gives (entriesIn P cs xs ys n)) (refuses 10 []) a a b b c c
   short-columns h = too-short (entriesIn P cs xs ys n) a b c (rw (length-entriesIn P cs xs ys n, lt-leb n (length a) h))
 
-  pub short-reals : length b < n → DeliveredIn P (entriesIn P cs xs ys n) (refuses 10 []) a a b b c c
+  pub short-reals : length b < n → RowCallIn P (gives (entriesIn P cs xs ys n)) (refuses 10 []) a a b b c c
   short-reals h = too-short (entriesIn P cs xs ys n) a b c (rw (length-entriesIn P cs xs ys n, lt-leb n (length b) h, and-false))
 
-  pub short-imaginaries : length c < n → DeliveredIn P (entriesIn P cs xs ys n) (refuses 10 []) a a b b c c
+  pub short-imaginaries : length c < n → RowCallIn P (gives (entriesIn P cs xs ys n)) (refuses 10 []) a a b b c c
   short-imaginaries h = too-short (entriesIn P cs xs ys n) a b c (rw (length-entriesIn P cs xs ys n, lt-leb n (length c) h, and-false, and-false))
 
 -- three copies of n entries, where there is room for them
 pub has-room : {N X : Type 0} {P : TwoParts N X} → Faithful P → (cs : List ℕ) (xs ys : List X) (n : ℕ) → Long cs xs ys → n ≤ 320 → (a a′ : List ℕ) (b b′ c c′ : List X)
     → n ≤ length a → n ≤ length b → n ≤ length c
-    → a′ ≡ take n cs ++ drop n a → b′ ≡ take n xs ++ drop n b → c′ ≡ take n ys ++ drop n c → DeliveredIn P (entriesIn P cs xs ys n) (gives n) a a′ b b′ c c′
+    → a′ ≡ take n cs ++ drop n a → b′ ≡ take n xs ++ drop n b → c′ ≡ take n ys ++ drop n c → RowCallIn P (gives (entriesIn P cs xs ys n)) (gives n) a a′ b b′ c c′
+unfolding countOf after
 has-room {N} {X} {P} f cs xs ys n long few a a′ b b′ c c′ ha hb hc ea eb ec =
     let l = entriesIn P cs xs ys n in
     let q : length l ≡ n = length-entriesIn P cs xs ys n in
@@ -95,13 +100,15 @@ has-room {N} {X} {P} f cs xs ys n long few a a′ b b′ c c′ ha hb hc ea eb e
       imaginaries = rw (r, py, length-take-le n ys (omega arith)) ec;
     }
 
-module _ {N X : Type 0} {P : TwoParts N X} where
-  -- past the limit, with the buffers as they were
-  pub too-many : (n : ℕ) (l : List (ℕ × N)) (a : List ℕ) (b c : List X) → 320 < n → AnsweredIn P n l (refuses 0 []) a a b b c c
-  too-many n l a b c h =
-      record { within = λ k. absurd (let z : ⊥ = omega arith in z); over = λ k. record { answer = refl; columns = refl; reals = refl; imaginaries = refl } }
+-- n contributions: past the limit the buffers are as they were, and within it the row m is delivered, which is that of what is handed in
+module _ {N X : Type 0} {P : TwoParts N X} {n : ℕ} {a : List ℕ} {b c : List X} where
+  pub too-many : (l : List (ℕ × N)) → mostEntries < n → RowCallIn P (unlessMalformed (leb n mostEntries) l) (refuses 0 []) a a b b c c
+  too-many l h = contributions-refused l (lt-leb n mostEntries h)
 
-  -- within the limit
-  pub few-enough : {n : ℕ} {l m : List (ℕ × N)} {r : Said ℕ} {a a′ : List ℕ} {b b′ c c′ : List X} → n ≤ 320 → m ≡ l → DeliveredIn P m r a a′ b b′ c c′ → AnsweredIn P n l r a a′ b b′ c c′
-  few-enough {n} {l} {m} {r} {a} {a′} {b} {b′} {c} {c′} h e d =
-      record { within = λ k. rw (sym e) d; over = λ k. absurd (let z : ⊥ = omega arith in z) }
+  pub few-enough : {l m : List (ℕ × N)} {r : Said ℕ} {a′ : List ℕ} {b′ c′ : List X} → n ≤ mostEntries → m ≡ l → RowCallIn P (gives m) r a a′ b b′ c c′
+      → RowCallIn P (unlessMalformed (leb n mostEntries) l) r a a′ b b′ c c′
+  few-enough h e d = contributions-taken (le-leb n mostEntries h) e d
+
+  pub delivered : {l m : List (ℕ × N)} {r : Said ℕ} {a′ : List ℕ} {b′ c′ : List X} → n ≤ mostEntries → l ≡ m
+      → RowCallIn P (unlessMalformed (leb n mostEntries) l) r a a′ b b′ c c′ → RowCallIn P (gives m) r a a′ b b′ c c′
+  delivered h e d = row-given (le-leb n mostEntries h) e d

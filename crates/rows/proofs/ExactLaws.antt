@@ -1,11 +1,11 @@
--- Contributions of whole numbers: their row, their sizes place by place, the bound that a sum of k of them keeps, and a call that delivers an exact row.
+-- Contributions of whole numbers: their sizes place by place, the bound that a sum of k of them keeps, and a call that delivers an exact row.
 -- Assumes nothing.
 use Prim.Native.Nat.{ℕ, zero, suc, _+_, _*_, _^_, _≤_, _<_}
 use native.Mathlib.Nat.{not-suc-le-zero, le-of-suc-le-suc, eq-or-lt-of-le}
 use native.Mathlib.Omega.{arith}
 use mathlib.Core.Logic.{⊎-elim}
 use mathlib.Core.Path.{_≡_, refl, sym, ap, _∙_, subst}
-use mathlib.Core.Bool.{Bool, true, false, _&&_, cond}
+use mathlib.Core.Bool.{Bool, true, false, _&&_}
 use mathlib.Core.List.{List, [], _∷_, _++_}
 use lib.Dec.{leb}
 use lib.IntN.{ℤ, natAbs}
@@ -15,33 +15,18 @@ use Rattle.refusal.specs.Refusals.{Said, gives, refuses}
 use Rattle.letters.specs.Gauss.{G, _⊕_}
 use Rattle.letters.specs.Tests.{every}
 use Rattle.letters.proofs.TestLaws.{and-true, and-left, and-right, bool-ext, every-at, every-intro, every-more, every-false}
-use Rattle.rows.specs.Placing.{rowOf}
-use Rattle.rows.specs.Sums.{Ascending, sumAt, valueAt}
+use Rattle.rows.specs.Placing.{rowIn}
 use Rattle.rows.specs.Sorting.{All, sorted, upTo}
 use Rattle.rows.specs.Buffers.{mostEntries, valueIn, entriesIn}
-use Rattle.rows.specs.Calls.{countOf, after}
 use Rattle.rows.specs.Numbers.{halves}
-use Rattle.rows.specs.Contributions.{commutatorTerms, noiseTerms}
-use Rattle.rows.specs.ExactRows.{whole, wholeParts, exactEntries, isWholeZero, exactRowOf, within, largestCoefficient, largestContribution, allSmall, exactAnswer, ExactDelivered, ExactCall}
-use Rattle.rows.proofs.PlacingLaws.{nonzero-ascending, row-ascending, value-row, value-nonzero}
+use Rattle.rows.specs.ExactRows.{whole, wholeParts, exactEntries, within, largestContribution, allSmall, exactAnswer, ExactCall}
 use Rattle.rows.proofs.ArrayLaws.{Faithful, length-entriesIn}
 use Rattle.rows.proofs.SortLaws.{all-sorted}
-use Rattle.rows.proofs.CallLaws.{call-delivered, call-refused}
-use Rattle.rows.proofs.HalfLaws.{within-re, within-im, abs-sum, taken-is, scaled-within, minus-within}
+use Rattle.rows.proofs.CallLaws.{contributions-refused, contributions-taken, row-given}
+use Rattle.rows.proofs.HalfLaws.{within-re, within-im, abs-sum}
 
 pub wholes-faithful : Faithful wholeParts
 wholes-faithful = record { real = λ x y. refl; imaginary = λ x y. refl; whole = λ z. refl }
-
--- ---- the row
-
-pub exact-ascending : (l : List (ℕ × G)) → Ascending 0 (exactRowOf l)
-unfolding exactRowOf
-exact-ascending l = nonzero-ascending 0 isWholeZero (rowOf _⊕_ l) (row-ascending _⊕_ l)
-
--- at each column the sum of its contributions
-pub exact-value : (c : ℕ) (l : List (ℕ × G)) → valueAt c (exactRowOf l) ≡ sumAt c l
-unfolding exactRowOf
-exact-value c l = value-nonzero 0 c (rowOf _⊕_ l) (row-ascending _⊕_ l) ∙ value-row c l
 
 -- ---- lists whose every element has P
 
@@ -79,22 +64,6 @@ small-parts [] e p = (refl, and-left (within largestContribution (e .1)) true p)
 small-parts (x ∷ a) e p =
     let rest = small-parts a e (and-right (within largestContribution (x .1)) (allSmall (a ++ e ∷ [])) p) in
     (and-true (and-left (within largestContribution (x .1)) (allSmall (a ++ e ∷ [])) p) (rest .0), rest .1)
-
--- what a coefficient that is taken contributes to a row
-module _ (n k l : ℕ) (c : G) (e : within largestCoefficient c ≡ true) where
-  scaled-small : (p : ℕ) → within largestContribution (halves .scaled p c) ≡ true
-  scaled-small p = ap (λ (z : G). within largestContribution (halves .scaled p z)) (sym (taken-is c e)) ∙ scaled-within p c
-
-  minus-small : (p : ℕ) → within largestContribution (halves .minusHalf p c) ≡ true
-  minus-small p = ap (λ (z : G). within largestContribution (halves .minusHalf p z)) (sym (taken-is c e)) ∙ minus-within p c
-
-  pub commutator-small : (f : ℕ → ℕ) → allSmall (commutatorTerms halves n k l f c) ≡ true
-  unfolding commutatorTerms
-  commutator-small f = small-cons _ _ (scaled-small _) (small-cons _ _ (scaled-small _) small-none)
-
-  pub noise-small : (f g : ℕ → ℕ) → allSmall (noiseTerms halves n k l f g c) ≡ true
-  unfolding noiseTerms
-  noise-small f g = small-cons _ _ (scaled-small _) (small-cons _ _ (minus-small _) (small-cons _ _ (minus-small _) small-none))
 
 -- place by place
 module _ (cs : List ℕ) (xs ys : List ℤ) where
@@ -185,43 +154,37 @@ module _ {k : ℕ} {a : G} (s : Bounded k a) (b : G) (e : within largestContribu
 -- ---- what a call answers
 
 -- the tests of the contributions l
-answer-is : (l : List (ℕ × G)) {t s : Bool} → leb (length l) mostEntries ≡ t → allSmall l ≡ s → exactAnswer l ≡ cond (t && s) (gives (exactRowOf l)) (refuses 0 [])
-unfolding exactAnswer
-answer-is l p q = rw (p, q)
-
-taken-answer : (l : List (ℕ × G)) → length l ≤ mostEntries → allSmall l ≡ true → exactAnswer l ≡ gives (exactRowOf l)
-taken-answer l h s = answer-is l (le-leb (length l) mostEntries h) s
+good-is : (l : List (ℕ × G)) → length l ≤ mostEntries → {s : Bool} → allSmall l ≡ s → (leb (length l) mostEntries && allSmall l) ≡ s
+good-is l h e = rw (le-leb (length l) mostEntries h) e
 
 -- small contributions, at most 320 of them, in three arrays: their row is delivered
 pub exact-delivered : (cs : List ℕ) (xs ys : List ℤ) (n : ℕ) → n ≤ mostEntries → {l : List (ℕ × G)} → exactEntries cs xs ys n ≡ l → allSmall l ≡ true
-    → {r : Said ℕ} {a a′ : List ℕ} {b b′ c c′ : List ℤ} → ExactCall (exactAnswer (exactEntries cs xs ys n)) r a a′ b b′ c c′ → ExactDelivered (exactRowOf l) r a a′ b b′ c c′
-unfolding countOf after
-exact-delivered cs xs ys n h {l} e s {r} {a} {a′} {b} {b′} {c} {c′} d =
+    → {r : Said ℕ} {a a′ : List ℕ} {b b′ c c′ : List ℤ} → ExactCall (exactAnswer (exactEntries cs xs ys n)) r a a′ b b′ c c′ → ExactCall (gives (rowIn halves false l)) r a a′ b b′ c c′
+unfolding exactAnswer
+exact-delivered cs xs ys n h {l} e s d =
     let few : length l ≤ mostEntries = omega (arith, length-entriesIn wholeParts cs xs ys n, ap length e) in
-    let x = subst (λ (x : Said (List (ℕ × G))). ExactCall x r a a′ b b′ c c′) (ap exactAnswer e ∙ taken-answer l few s) d in
-    record { answer = x .answer; columns = x .columns; reals = x .reals; imaginaries = x .imaginaries }
+    row-given (ap (λ (x : List (ℕ × G)). leb (length x) mostEntries && allSmall x) e ∙ good-is l few s) (ap (rowIn halves false) e) d
 
 -- the first n entries of three arrays
 module _ (cs : List ℕ) (xs ys : List ℤ) (n : ℕ) where
-  pub exact-many : (a : List ℕ) (b c : List ℤ) → mostEntries < n → ExactCall (exactAnswer (exactEntries cs xs ys n)) (refuses 0 []) a a b b c c
-  exact-many a b c h =
+  pub exact-many : {a : List ℕ} {b c : List ℤ} → mostEntries < n → ExactCall (exactAnswer (exactEntries cs xs ys n)) (refuses 0 []) a a b b c c
+  unfolding exactAnswer
+  exact-many h =
       let l = exactEntries cs xs ys n in
-      rw (answer-is l (ap (λ (k : ℕ). leb k mostEntries) (length-entriesIn wholeParts cs xs ys n) ∙ lt-leb n mostEntries h) refl) (call-refused 0 [] a b c)
+      contributions-refused (rowIn halves false l) (ap (λ (t : Bool). t && allSmall l) (ap (λ (k : ℕ). leb k mostEntries) (length-entriesIn wholeParts cs xs ys n) ∙ lt-leb n mostEntries h))
 
   module _ (h : n ≤ mostEntries) {t : Bool} (e : t ≡ every n (λ i. within largestContribution (valueIn wholeParts xs ys i))) where
     room : length (exactEntries cs xs ys n) ≤ mostEntries
     room = omega (arith, length-entriesIn wholeParts cs xs ys n)
 
-    pub exact-large : (a : List ℕ) (b c : List ℤ) → t ≡ false → ExactCall (exactAnswer (exactEntries cs xs ys n)) (refuses 0 []) a a b b c c
-    exact-large a b c q =
-        let l = exactEntries cs xs ys n in
-        rw (answer-is l (le-leb (length l) mostEntries room) (sym (every-small cs xs ys n) ∙ sym e ∙ q)) (call-refused 0 [] a b c)
+    pub exact-large : {a : List ℕ} {b c : List ℤ} → t ≡ false → ExactCall (exactAnswer (exactEntries cs xs ys n)) (refuses 0 []) a a b b c c
+    unfolding exactAnswer
+    exact-large q = contributions-refused (rowIn halves false (exactEntries cs xs ys n)) (good-is (exactEntries cs xs ys n) room (sym (every-small cs xs ys n) ∙ sym e ∙ q))
 
     pub all-small : t ≡ true → allSmall (exactEntries cs xs ys n) ≡ true
     all-small q = sym (every-small cs xs ys n) ∙ sym e ∙ q
 
-    pub exact-row : t ≡ true → {m : List (ℕ × G)} → m ≡ exactRowOf (exactEntries cs xs ys n) → {r : Said ℕ} {a a′ : List ℕ} {b b′ c c′ : List ℤ} → ExactDelivered m r a a′ b b′ c c′
+    pub exact-row : t ≡ true → {m : List (ℕ × G)} → m ≡ rowIn halves false (exactEntries cs xs ys n) → {r : Said ℕ} {a a′ : List ℕ} {b b′ c c′ : List ℤ} → ExactCall (gives m) r a a′ b b′ c c′
         → ExactCall (exactAnswer (exactEntries cs xs ys n)) r a a′ b b′ c c′
-    exact-row q f d =
-        let l = exactEntries cs xs ys n in
-        rw (taken-answer l room (all-small q), ← f) (call-delivered d)
+    unfolding exactAnswer
+    exact-row q f d = contributions-taken (good-is (exactEntries cs xs ys n) room (all-small q)) f d

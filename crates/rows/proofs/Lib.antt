@@ -1,7 +1,6 @@
 pub mod PlacingLaws
 pub mod SparseLaws
 pub mod SuperoperatorTheorems
-pub mod EntryLaws
 pub mod SortLaws
 pub mod RunLaws
 pub mod PartLaws
@@ -14,4 +13,6 @@ pub mod OpenLaws
 pub mod RowCases
 pub mod CallLaws
 pub mod HalfLaws
+pub mod HalfUnitLaws
 pub mod ExactLaws
+pub mod DeliveryReading

@@ -1,40 +1,25 @@
--- Neighbours of one column added up, in a list sorted by column, make the row that `rowOf` makes by placing; a row is strictly ascending and no longer
--- than its contributions. Over any numbers and any sum. Assumes nothing.
+-- Neighbours of one column added up, in a list sorted by column, make the row that `rowOf` makes by placing; two rows merged by column and added up
+-- are one placed into the other. Over any numbers and any sum. Assumes nothing.
 use Prim.Native.Nat.{ℕ, suc, _≤_, _<_}
 use native.Mathlib.Omega.{arith}
 use mathlib.Core.Path.{_≡_, refl, sym, ap, _∙_}
-use mathlib.Core.Bool.{Bool, true, false}
 use mathlib.Core.List.{List, [], _∷_, _++_}
-use lib.Dec.{eqb}
-use lib.ListN.{length}
-use borrow.Author.Tests.{lt-ltb, le-ltb, eq-eqb, ne-eqb, eqb-true, eqb-false}
+use borrow.Author.Tests.{lt-ltb, le-ltb, eq-eqb, ne-eqb}
 use Rattle.rows.specs.Placing.{placed, placeAll, rowOf}
+use Rattle.rows.specs.Sums.{Ascending}
 use Rattle.rows.specs.Sorting.{Rising, inserted, sortedOnto, sorted, merged, addedFrom, neighboursAdded}
+use Rattle.rows.proofs.PlacingLaws.{ascending-from, row-append}
 use Rattle.rows.proofs.SortLaws.{by-order, inserted-here, inserted-past, inserted-none, rising-inserted, sorted-rising, merged-sorted}
 
 -- the column of an entry
 abbrev pub columnOf : {N : Type 0} → ℕ × N → ℕ
 columnOf e = e .0
 
--- by strictly ascending column, all at least b
-abbrev pub Climbing : {N : Type 0} → ℕ → List (ℕ × N) → Type 0
-Climbing b [] = Unit {0}
-Climbing b (x ∷ xs) = (b ≤ x .0) × Climbing (suc (x .0)) xs
-
--- from a lower bound on
-pub climbing-lower : {N : Type 0} (a b : ℕ) (l : List (ℕ × N)) → a ≤ b → Climbing b l → Climbing a l
-climbing-lower a b [] h r = tt
-climbing-lower a b (x ∷ l) h r = let k = r .0 in (omega arith, r .1)
-
 -- strictly ascending is ascending
-climbing-rising : {N : Type 0} (b : ℕ) (l : List (ℕ × N)) → Climbing b l → Rising columnOf b l
-climbing-rising b [] r = tt
-climbing-rising b (x ∷ l) r = (r .0, climbing-rising (x .0) l (climbing-lower (x .0) (suc (x .0)) l (omega arith) (r .1)))
-
--- the case of a test
-by-test : (t : Bool) {P : Type 0} → (t ≡ true → P) → (t ≡ false → P) → P
-by-test true f g = f refl
-by-test false f g = g refl
+ascending-rising : {N : Type 0} (b : ℕ) (l : List (ℕ × N)) → Ascending b l → Rising columnOf b l
+unfolding Ascending
+ascending-rising b [] r = tt
+ascending-rising b (x ∷ l) r = (r .0, ascending-rising (x .0) l (ascending-from (x .0) (suc (x .0)) l (omega arith) (r .1)))
 
 module _ {N : Type 0} (sum : N → N → N) where
   -- ---- the clauses of the definitions
@@ -121,72 +106,31 @@ module _ {N : Type 0} (sum : N → N → N) where
   unfolding sorted neighboursAdded rowOf
   added-sorted l = sym (placed-onto l [] tt)
 
-  -- ---- how long a row is
-
-  length-from : (x : ℕ × N) (l : List (ℕ × N)) → length (addedFrom sum x l) ≤ suc (length l)
-  length-from x [] = rw (added-last x) (omega arith)
-  length-from x (y ∷ l) =
-      let onto = length-from (x .0, sum (x .1) (y .1)) l in
-      let after = length-from y l in
-      by-test (eqb (y .0) (x .0)) (λ q. rw (added-same x y l (eqb-true (y .0) (x .0) q)) (omega arith)) (λ q. rw (added-next x y l (eqb-false (y .0) (x .0) q)) (omega arith))
-
-  -- no longer than what is added up
-  pub length-added : (l : List (ℕ × N)) → length (neighboursAdded sum l) ≤ length l
-  unfolding neighboursAdded
-  length-added [] = omega arith
-  length-added (x ∷ l) = length-from x l
-
-  -- ---- a row is strictly ascending
-
-  climbing-placed : (b : ℕ) (e : ℕ × N) (l : List (ℕ × N)) → b ≤ e .0 → Climbing b l → Climbing b (placed sum e l)
-  climbing-placed b e [] h r = rw (placed-none e) (h, tt)
-  climbing-placed b e (x ∷ l) h r =
-      let after = climbing-placed (suc (x .0)) e l in
-      by-order (x .0) (e .0)
-      (λ k. rw (placed-past e x l k) (r .0, after k (r .1)))
-      (λ k. by-step (e .0) (x .0) k
-      (λ q. rw (placed-same e x l (sym q)) (r .0, r .1))
-      (λ k. rw (placed-here e x l k) (h, (k, r .1))))
-
-  climbing-all : (es l : List (ℕ × N)) → Climbing 0 l → Climbing 0 (placeAll sum es l)
-  unfolding placeAll
-  climbing-all [] l r = r
-  climbing-all (e ∷ es) l r = climbing-all es (placed sum e l) (climbing-placed 0 e l (omega arith) r)
-
-  -- a row, whatever its contributions
-  pub climbing-row : (l : List (ℕ × N)) → Climbing 0 (rowOf sum l)
-  unfolding rowOf
-  climbing-row l = climbing-all l [] tt
-
   -- ---- a strictly ascending list is its own row
 
-  from-climbing : (x : ℕ × N) (l : List (ℕ × N)) → Climbing (suc (x .0)) l → addedFrom sum x l ≡ x ∷ l
-  from-climbing x [] r = added-last x
-  from-climbing x (y ∷ l) r =
+  from-ascending : (x : ℕ × N) (l : List (ℕ × N)) → Ascending (suc (x .0)) l → addedFrom sum x l ≡ x ∷ l
+  unfolding Ascending
+  from-ascending x [] r = added-last x
+  from-ascending x (y ∷ l) r =
       let k = r .0 in
-      added-next x y l (omega arith) ∙ ap (λ (t : List (ℕ × N)). x ∷ t) (from-climbing y l (r .1))
+      added-next x y l (omega arith) ∙ ap (λ (t : List (ℕ × N)). x ∷ t) (from-ascending y l (r .1))
 
-  added-climbing : (b : ℕ) (l : List (ℕ × N)) → Climbing b l → neighboursAdded sum l ≡ l
-  unfolding neighboursAdded
-  added-climbing b [] r = refl
-  added-climbing b (x ∷ l) r = from-climbing x l (r .1)
+  added-ascending : (b : ℕ) (l : List (ℕ × N)) → Ascending b l → neighboursAdded sum l ≡ l
+  unfolding neighboursAdded Ascending
+  added-ascending b [] r = refl
+  added-ascending b (x ∷ l) r = from-ascending x l (r .1)
 
-  pub row-climbing : (l : List (ℕ × N)) → Climbing 0 l → rowOf sum l ≡ l
-  row-climbing l r = sym (added-sorted l) ∙ ap (neighboursAdded sum) (sorted-rising columnOf 0 l (climbing-rising 0 l r)) ∙ added-climbing 0 l r
-
-  all-append : (a b l : List (ℕ × N)) → placeAll sum (a ++ b) l ≡ placeAll sum b (placeAll sum a l)
-  unfolding placeAll
-  all-append [] b l = refl
-  all-append (e ∷ a) b l = all-append a b (placed sum e l)
+  own-row : (l : List (ℕ × N)) → Ascending 0 l → rowOf sum l ≡ l
+  own-row l r = sym (added-sorted l) ∙ ap (neighboursAdded sum) (sorted-rising columnOf 0 l (ascending-rising 0 l r)) ∙ added-ascending 0 l r
 
   -- the entries of a row placed into another: both merged and added up, the other's first
-  pub placed-row : (a b : List (ℕ × N)) → Climbing 0 a → Climbing 0 b → placeAll sum b a ≡ neighboursAdded sum (merged columnOf a b)
+  pub placed-row : (a b : List (ℕ × N)) → Ascending 0 a → Ascending 0 b → placeAll sum b a ≡ neighboursAdded sum (merged columnOf a b)
   unfolding rowOf
   placed-row a b ra rb =
-      let ia : sorted columnOf a ≡ a = sorted-rising columnOf 0 a (climbing-rising 0 a ra) in
-      let ib : sorted columnOf b ≡ b = sorted-rising columnOf 0 b (climbing-rising 0 b rb) in
-      ap (placeAll sum b) (sym (row-climbing a ra))
-      ∙ sym (all-append a b [])
+      let ia : sorted columnOf a ≡ a = sorted-rising columnOf 0 a (ascending-rising 0 a ra) in
+      let ib : sorted columnOf b ≡ b = sorted-rising columnOf 0 b (ascending-rising 0 b rb) in
+      ap (placeAll sum b) (sym (own-row a ra))
+      ∙ sym (row-append sum a b)
       ∙ sym (added-sorted (a ++ b))
       ∙ ap (neighboursAdded sum) (sym (merged-sorted columnOf a b))
       ∙ rw (ia, ib)

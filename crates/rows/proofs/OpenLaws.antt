@@ -4,18 +4,19 @@ use Prim.Native.Nat.{ℕ, zero, suc, _+_, _≤_, _<_}
 use native.Mathlib.Nat.{add-zero}
 use native.Mathlib.Omega.{arith}
 use mathlib.Core.Path.{_≡_, refl, sym, ap, ap₂, _∙_}
-use mathlib.Core.Bool.{Bool, true, false, cond}
+use mathlib.Core.Bool.{true, false}
 use mathlib.Core.List.{List, [], _∷_, _++_, map, append-assoc, append-nil}
 use lib.ListN.{length, getD, set, take, drop}
 use lib.Seq.{slice, take-take, take-at, drop-at}
 use lib.Ieee.{Float, nan}
-use Rattle.complex.specs.Complex.{sumOf, isZero}
 use Rattle.complex.specs.declared.Complex.{Complex}
-use Rattle.rows.specs.Placing.{rowOf, nonzero}
+use Rattle.rows.specs.Numbers.{floats}
+use Rattle.rows.specs.Placing.{keptBy, rowIn, openRowIn}
 use Rattle.rows.specs.Sorting.{merged, neighboursAdded, upTo}
-use Rattle.rows.specs.Buffers.{floatParts, Long, valueAt, entryAt, entries, keptBy, kept, floatRow, openRow}
+use Rattle.rows.specs.Buffers.{floatParts, Long, valueIn, entryIn, entries}
 use Rattle.rows.proofs.SortLaws.{map-merged}
-use Rattle.rows.proofs.NeighbourLaws.{columnOf, Climbing, climbing-lower, climbing-row, placed-row}
+use Rattle.rows.proofs.PlacingLaws.{rowIn-ascending}
+use Rattle.rows.proofs.NeighbourLaws.{columnOf, placed-row}
 use Rattle.rows.proofs.ArrayLaws.{entries-none, entries-stored, entriesIn-map, entriesIn-more, length-entriesIn, long-stored}
 
 -- ---- the loop that appends
@@ -38,9 +39,9 @@ appending-more {cs} {xs} {ys} {q} {ds} {us} {vs} {p} {ds′} {us′} {vs′} {i}
       within = omega arith;
       shape =
           rw e
-          (entries-stored ds′ us′ vs′ (p + i) (getD cs i 0) (valueAt xs ys i) (a .long) (omega arith)
-          ∙ ap (λ (l : List (ℕ × Complex)). l ++ entryAt cs xs ys i ∷ []) (a .shape)
-          ∙ append-assoc (entries ds us vs p) (entries cs xs ys i) (entryAt cs xs ys i ∷ [])
+          (entries-stored ds′ us′ vs′ (p + i) (getD cs i 0) (valueIn floatParts xs ys i) (a .long) (omega arith)
+          ∙ ap (λ (l : List (ℕ × Complex)). l ++ entryIn floatParts cs xs ys i ∷ []) (a .shape)
+          ∙ append-assoc (entries ds us vs p) (entries cs xs ys i) (entryIn floatParts cs xs ys i ∷ [])
           ∙ ap (λ (l : List (ℕ × Complex)). entries ds us vs p ++ l) (sym (entriesIn-more floatParts cs xs ys i)));
       long = long-stored ds′ us′ vs′ (p + i) (getD cs i 0) (getD xs i nan) (getD ys i nan) (a .long);
     }
@@ -65,25 +66,6 @@ module _ {A B : Type 0} (f : A → B) where
   map-drop (suc n) [] = refl
   map-drop (suc n) (x ∷ l) = map-drop n l
 
--- ---- both rows are strictly ascending
-
-climbing-nonzero : (b : ℕ) (l : List (ℕ × Complex)) → Climbing b l → Climbing b (nonzero isZero l)
-unfolding nonzero
-climbing-nonzero b [] r = tt
-climbing-nonzero b (x ∷ l) r =
-    let later : Climbing (suc (x .0)) (nonzero isZero l) = climbing-nonzero (suc (x .0)) l (r .1) in
-    let first = r .0 in
-    go (isZero (x .1)) (climbing-lower b (suc (x .0)) (nonzero isZero l) (omega arith) later) (first, later)
-  where
-    go : (t : Bool) → Climbing b (nonzero isZero l) → Climbing b (x ∷ nonzero isZero l) → Climbing b (cond t (nonzero isZero l) (x ∷ nonzero isZero l))
-    go true p q = p
-    go false p q = q
-
-climbing-float : (zeros : Bool) (l : List (ℕ × Complex)) → Climbing 0 (floatRow zeros l)
-unfolding floatRow keptBy
-climbing-float true l = climbing-row sumOf l
-climbing-float false l = climbing-nonzero 0 (rowOf sumOf l) (climbing-row sumOf l)
-
 -- ---- the row
 
 -- the first places, merged by column
@@ -96,19 +78,19 @@ places-merged key p q a b counted together =
 pub open-row : (cs : List ℕ) (xs ys : List Float) (p q : ℕ) (places : List ℕ) (commutator noise : List (ℕ × Complex))
     → take (p + q) places ≡ merged (λ i. getD cs i 0) (take p (upTo (p + q))) (drop p (upTo (p + q)))
     → (ds : List ℕ) (us vs : List Float) (es : List ℕ) (ws zs : List Float)
-    → entries ds us vs p ≡ floatRow false commutator → entries es ws zs q ≡ floatRow true noise
+    → entries ds us vs p ≡ rowIn floats false commutator → entries es ws zs q ≡ rowIn floats true noise
     → entries cs xs ys (p + q) ≡ entries ds us vs p ++ entries es ws zs q
-    → kept true (neighboursAdded sumOf (map (entryAt cs xs ys) (take (p + q) places))) ≡ openRow (floatRow false commutator) (floatRow true noise)
-unfolding openRow keptBy
+    → keptBy (floats .isZero) true (neighboursAdded (floats .sum) (map (entryIn floatParts cs xs ys) (take (p + q) places))) ≡ openRowIn floats commutator noise
+unfolding openRowIn keptBy
 open-row cs xs ys p q places commutator noise together ds us vs es ws zs left right both =
-    let E = entryAt cs xs ys in
-    let all : map E (upTo (p + q)) ≡ floatRow false commutator ++ floatRow true noise = entriesIn-map floatParts cs xs ys (p + q) ∙ both ∙ ap₂ (λ (l r : List (ℕ × Complex)). l ++ r) left right in
-    let long : length (floatRow false commutator) ≡ p = ap length (sym left) ∙ length-entriesIn floatParts ds us vs p in
-    let first : map E (take p (upTo (p + q))) ≡ floatRow false commutator =
-    map-take E p (upTo (p + q)) ∙ ap (take p) all ∙ take-at (floatRow false commutator) (floatRow true noise) p long in
-    let second : map E (drop p (upTo (p + q))) ≡ floatRow true noise =
-    map-drop E p (upTo (p + q)) ∙ ap (drop p) all ∙ drop-at (floatRow false commutator) (floatRow true noise) p long in
-    ap (λ (l : List ℕ). neighboursAdded sumOf (map E l)) together
-    ∙ ap (neighboursAdded sumOf) (map-merged columnOf E (take p (upTo (p + q))) (drop p (upTo (p + q))))
-    ∙ ap₂ (λ (l r : List (ℕ × Complex)). neighboursAdded sumOf (merged columnOf l r)) first second
-    ∙ sym (placed-row sumOf (floatRow false commutator) (floatRow true noise) (climbing-float false commutator) (climbing-float true noise))
+    let E = entryIn floatParts cs xs ys in
+    let all : map E (upTo (p + q)) ≡ rowIn floats false commutator ++ rowIn floats true noise = entriesIn-map floatParts cs xs ys (p + q) ∙ both ∙ ap₂ (λ (l r : List (ℕ × Complex)). l ++ r) left right in
+    let long : length (rowIn floats false commutator) ≡ p = ap length (sym left) ∙ length-entriesIn floatParts ds us vs p in
+    let first : map E (take p (upTo (p + q))) ≡ rowIn floats false commutator =
+    map-take E p (upTo (p + q)) ∙ ap (take p) all ∙ take-at (rowIn floats false commutator) (rowIn floats true noise) p long in
+    let second : map E (drop p (upTo (p + q))) ≡ rowIn floats true noise =
+    map-drop E p (upTo (p + q)) ∙ ap (drop p) all ∙ drop-at (rowIn floats false commutator) (rowIn floats true noise) p long in
+    ap (λ (l : List ℕ). neighboursAdded (floats .sum) (map E l)) together
+    ∙ ap (neighboursAdded (floats .sum)) (map-merged columnOf E (take p (upTo (p + q))) (drop p (upTo (p + q))))
+    ∙ ap₂ (λ (l r : List (ℕ × Complex)). neighboursAdded (floats .sum) (merged columnOf l r)) first second
+    ∙ sym (placed-row (floats .sum) (rowIn floats false commutator) (rowIn floats true noise) (rowIn-ascending floats false commutator) (rowIn-ascending floats true noise))

@@ -9,7 +9,8 @@ use borrow.Author.Tests.{ltb-true, ltb-false, eqb-true, eqb-false, eq-eqb, ne-eq
 use lib.Dec.{eqb, ltb}
 use Rattle.letters.specs.Gauss.{G, 𝟘, _⊕_, eqG}
 use Rattle.letters.proofs.GaussLaws.{ring, ⊕-assoc, 𝟘-⊕, ⊕-𝟘, eqG-true}
-use Rattle.rows.specs.Placing.{placed, placeAll, rowOf, nonzero}
+use Rattle.rows.specs.Numbers.{Numbers, halves}
+use Rattle.rows.specs.Placing.{placed, placeAll, rowOf, nonzero, keptBy, rowIn, openRowIn}
 use Rattle.rows.specs.Sums.{Ascending, Below, hasColumn, contributionsTo, orderedSum, summed, partAt, sumAt, valueAt}
 
 -- ---- ascending columns
@@ -203,11 +204,6 @@ module _ {N : Type 0} (sum : N → N → N) where
   unfolding rowOf Ascending contributionsTo
   row-numbers c es = placeAll-numbers c es [] tt ∙ gathered-none (contributionsTo c es)
 
-  -- so where the contributions to column c are x and then xs, the row's number there is the sum that starts with x and adds xs in order
-  pub row-number : (c : ℕ) (es : List (ℕ × N)) (x : N) (xs : List N) → contributionsTo c es ≡ x ∷ xs → contributionsTo c (rowOf sum es) ≡ orderedSum sum x xs ∷ []
-  unfolding summed
-  row-number c es x xs e = row-numbers c es ∙ ap (summed sum) e
-
   -- ---- contributions after contributions are placed after them
 
   pub placeAll-append : (xs ys row : List (ℕ × N)) → placeAll sum (xs ++ ys) row ≡ placeAll sum ys (placeAll sum xs row)
@@ -218,6 +214,12 @@ module _ {N : Type 0} (sum : N → N → N) where
   pub row-append : (xs ys : List (ℕ × N)) → rowOf sum (xs ++ ys) ≡ placeAll sum ys (rowOf sum xs)
   unfolding rowOf
   row-append xs ys = placeAll-append xs ys []
+
+-- with zero sums or without
+pub rowIn-ascending : {C N : Type 0} (A : Numbers C N) (zeros : Bool) (es : List (ℕ × N)) → Ascending 0 (rowIn A zeros es)
+unfolding rowIn keptBy
+rowIn-ascending A true es = row-ascending (A .sum) es
+rowIn-ascending A false es = nonzero-ascending 0 (A .isZero) (rowOf (A .sum) es) (row-ascending (A .sum) es)
 
 module _ {N : Type 0} where
   -- every column of two lists is below d
@@ -363,3 +365,15 @@ value-row c es = value-sum 0 c (rowOf _⊕_ es) (row-ascending _⊕_ es) ∙ sum
 pub value-nonzero : (i c : ℕ) (l : List (ℕ × G)) → Ascending i l → valueAt c (nonzero (λ x. eqG x 𝟘) l) ≡ valueAt c l
 value-nonzero i c l a =
     value-sum i c (nonzero (λ x. eqG x 𝟘) l) (nonzero-ascending i (λ x. eqG x 𝟘) l a) ∙ sum-nonzero c l ∙ sym (value-sum i c l a)
+
+-- the number at a column of a row, with zero sums or without, and of an open system's row
+pub rowIn-value : (zeros : Bool) (c : ℕ) (es : List (ℕ × G)) → valueAt c (rowIn halves zeros es) ≡ sumAt c es
+unfolding rowIn keptBy
+rowIn-value true c es = value-row c es
+rowIn-value false c es = value-nonzero 0 c (rowOf _⊕_ es) (row-ascending _⊕_ es) ∙ value-row c es
+
+pub openRowIn-value : (c : ℕ) (es fs : List (ℕ × G)) → valueAt c (openRowIn halves es fs) ≡ sumAt c es ⊕ sumAt c fs
+unfolding openRowIn
+openRowIn-value c es fs =
+    value-placeAll c (rowIn halves true fs) (rowIn halves false es) (rowIn-ascending halves false es)
+    ∙ ap₂ _⊕_ (rowIn-value false c es) (sym (value-sum 0 c (rowIn halves true fs) (rowIn-ascending halves true fs)) ∙ rowIn-value true c fs)

@@ -16,48 +16,40 @@ use Rattle.letters.specs.Matrices.{two-by-two, pauli, decoherence, bit}
 use Rattle.letters.specs.Single.{cell}
 use Rattle.letters.specs.Rows.{columnOf, rowPower}
 use Rattle.rows.specs.Equation.{𝟚}
-use Rattle.rows.specs.Placing.{placed, placeAll, rowOf, nonzero}
+use Rattle.rows.specs.Placing.{placed, placeAll, rowOf, nonzero, keptBy, rowIn}
 use Rattle.rows.specs.Numbers.{Numbers, halves, floats}
 use Rattle.rows.specs.Contributions.{commutatorTerms, noiseTerms}
-use Rattle.rows.specs.ExactRows.{exactRowOf, within, allSmall, taken, exactAnswer}
+use Rattle.rows.specs.Calls.{unlessMalformed}
+use Rattle.rows.specs.ExactRows.{within, allSmall, exactAnswer}
 
 -- row 0 of the commutator with Y on the spin
 abbrev rowOfY : {C N : Type 0} → Numbers C N → C → List (ℕ × N)
-rowOfY A c = nonzero (A .isZero) (rowOf (A .sum) (commutatorTerms A 1 0 0 (λ s. 2) c))
+rowOfY A c = rowIn A false (commutatorTerms A 1 0 0 (λ s. 2) c)
 
 -- 1 Y0: row 0 has -1 in columns 1 and 2, since Y is not its own transpose
 one-y : rowOfY halves (record { re = pos 1; im = pos 0 }) ≡ (1, record { re = negsuc 1; im = pos 0 }) ∷ (2, record { re = negsuc 1; im = pos 0 }) ∷ []
-unfolding rowOf placeAll placed nonzero commutatorTerms columnOf rowPower total bit cell firstFrom eqG eqℤ pauli two-by-two i^ _⊗_ _⊕_ 𝟘 𝟙 −𝟙 𝟚 i⁺ i⁻
+unfolding rowIn keptBy rowOf placeAll placed nonzero commutatorTerms columnOf rowPower total bit cell firstFrom eqG eqℤ pauli two-by-two i^ _⊗_ _⊕_ 𝟘 𝟙 −𝟙 𝟚 i⁺ i⁻
 one-y = refl
 
 -- ---- exact rows
 
 -- (Z0, Z0), 1: the zero of row 0 is left out
-z-z-exact : exactRowOf (noiseTerms halves 1 0 0 (λ s. 3) (λ s. 3) (record { re = pos 1; im = pos 0 })) ≡ []
-unfolding exactRowOf rowOf placeAll placed nonzero noiseTerms columnOf rowPower total bit cell firstFrom eqG eqℤ decoherence two-by-two i^ _⊗_ _⊕_ 𝟘 𝟙 −𝟙 𝟚 i⁺ i⁻
+z-z-exact : rowIn halves false (noiseTerms halves 1 0 0 (λ s. 3) (λ s. 3) (record { re = pos 1; im = pos 0 })) ≡ []
+unfolding rowIn keptBy rowOf placeAll placed nonzero noiseTerms columnOf rowPower total bit cell firstFrom eqG eqℤ decoherence two-by-two i^ _⊗_ _⊕_ 𝟘 𝟙 −𝟙 𝟚 i⁺ i⁻
 z-z-exact = refl
 
 -- 3 Z0 with (X0, X0), 2: row 1 has -4 - 12 i in column 1 and 4 in column 2
-worked-row : exactRowOf (commutatorTerms halves 1 0 1 (λ s. 3) (record { re = pos 3; im = pos 0 }) ++ noiseTerms halves 1 0 1 (λ s. 1) (λ s. 1) (record { re = pos 2; im = pos 0 })) ≡ (1, record { re = negsuc 3; im = negsuc 11 }) ∷ (2, record { re = pos 4; im = pos 0 }) ∷ []
-unfolding exactRowOf rowOf placeAll placed nonzero commutatorTerms noiseTerms columnOf rowPower total bit cell firstFrom eqG eqℤ pauli decoherence two-by-two i^ _⊗_ _⊕_ 𝟘 𝟙 −𝟙 𝟚 i⁺ i⁻
+worked-row : rowIn halves false (commutatorTerms halves 1 0 1 (λ s. 3) (record { re = pos 3; im = pos 0 }) ++ noiseTerms halves 1 0 1 (λ s. 1) (λ s. 1) (record { re = pos 2; im = pos 0 })) ≡ (1, record { re = negsuc 3; im = negsuc 11 }) ∷ (2, record { re = pos 4; im = pos 0 }) ∷ []
+unfolding rowIn keptBy rowOf placeAll placed nonzero commutatorTerms noiseTerms columnOf rowPower total bit cell firstFrom eqG eqℤ pauli decoherence two-by-two i^ _⊗_ _⊕_ 𝟘 𝟙 −𝟙 𝟚 i⁺ i⁻
 worked-row = refl
-
--- 2^50 is taken, and 2^50 + 1 is not
-largest-taken : taken (record { re = pos 1125899906842624; im = negsuc 1125899906842623 }) ≡ record { re = pos 1125899906842624; im = negsuc 1125899906842623 }
-unfolding taken within
-largest-taken = refl
-
-too-large : taken (record { re = pos 1; im = negsuc 1125899906842624 }) ≡ 𝟘
-unfolding taken within
-too-large = refl
 
 -- a contribution of 2^52 is added up, and one of 2^52 + 1 is refused
 largest-added : exactAnswer ((5, record { re = pos 4503599627370496; im = pos 0 }) ∷ []) ≡ gives ((5, record { re = pos 4503599627370496; im = pos 0 }) ∷ [])
-unfolding exactAnswer allSmall within exactRowOf rowOf placeAll placed nonzero eqG eqℤ 𝟘
+unfolding exactAnswer allSmall within unlessMalformed rowIn keptBy rowOf placeAll placed nonzero eqG eqℤ 𝟘
 largest-added = refl
 
 large-refused : exactAnswer ((5, record { re = pos 4503599627370497; im = pos 0 }) ∷ []) ≡ refuses 0 []
-unfolding exactAnswer allSmall within
+unfolding exactAnswer allSmall within unlessMalformed
 large-refused = refl
 
 -- ---- in f64
@@ -67,5 +59,5 @@ abbrev real : Float → Complex
 real x = record { re = x; im = fin false 0 (pos 0) }
 
 float-one-y : rowOfY floats (real (fin false 1 (pos 0))) ≡ (1, real (fin true 1 (pos 0))) ∷ (2, real (fin true 1 (pos 0))) ∷ []
-unfolding rowOf placeAll placed nonzero commutatorTerms columnOf rowPower total bit cell firstFrom eqG eqℤ pauli two-by-two i^ _⊗_ 𝟘 𝟙 −𝟙 i⁺ i⁻ sumOf productOf unitOf unitOfI isZero add sub mul neg eq ofBits
+unfolding rowIn keptBy rowOf placeAll placed nonzero commutatorTerms columnOf rowPower total bit cell firstFrom eqG eqℤ pauli two-by-two i^ _⊗_ 𝟘 𝟙 −𝟙 i⁺ i⁻ sumOf productOf unitOf unitOfI isZero add sub mul neg eq ofBits
 float-one-y = refl

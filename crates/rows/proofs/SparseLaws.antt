@@ -17,11 +17,11 @@ use Rattle.letters.specs.Rows.{columnOf, rowPower}
 use Rattle.letters.specs.declared.Kind.{Kind}
 use Rattle.letters.specs.declared.Kind.the-variants.{Pauli, Decoherence}
 use Rattle.letters.proofs.TestLaws.{bool-ext, and-left, and-right, every-at}
-use Rattle.letters.proofs.GaussLaws.{conj-𝟘, conj-𝟙, conj-−𝟙, i^-not-zero}
+use Rattle.letters.proofs.GaussLaws.{conj-𝟘, conj-𝟙, conj-−𝟙}
 use Rattle.letters.proofs.SumLaws.{Π-cong, conj-Π, total-cong-below}
 use Rattle.letters.proofs.BitLaws.{bit-lt, binary-lt, binary-bits, eqb-parts}
 use Rattle.letters.proofs.TableLaws.{closed}
-use Rattle.letters.proofs.Letterings.{row-matrix, columnOf-lt}
+use Rattle.letters.proofs.Letterings.{row-matrix}
 
 -- ---- numbers by their bits
 
@@ -105,13 +105,6 @@ module _ (kind : Kind) (n : ℕ) (f : ℕ → ℕ) (hf : (s : ℕ) → s < n →
           → cond t (i^ (rowPower (lettersOf kind) n f b)) 𝟘 ≡ cond t (i^ (rowPower (lettersOf kind) n f (columnOf (lettersOf kind) n f l))) 𝟘
       go true q = ap (λ r. i^ (rowPower (lettersOf kind) n f r)) (eqb-true b (columnOf (lettersOf kind) n f l) q)
       go false q = refl
-
-  -- and is not zero there
-  pub column-not-zero : (l : ℕ) → l < 2 ^ n → matrix (lettersOf kind) n f (columnOf (lettersOf kind) n f l) l ≡ 𝟘 → ⊥
-  column-not-zero l hl e =
-      let M = lettersOf kind in
-      let b = columnOf M n f l in
-      i^-not-zero (rowPower M n f b) (sym (column-matrix b l (columnOf-lt M n f l) hl ∙ ap (λ t. cond t (i^ (rowPower M n f b)) 𝟘) (eq-eqb b b refl)) ∙ e)
 
 -- ---- decoherence products are real
 

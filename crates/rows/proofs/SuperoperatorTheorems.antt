@@ -11,7 +11,7 @@ use lib.Arith.{digits-lt, digits-div, digits-mod}
 use lib.Dec.{eqb}
 use Rattle.letters.specs.Gauss.{G, 𝟘, 𝟙, −𝟙, i⁺, i⁻, _⊕_, _⊗_, conj, i^}
 use Rattle.letters.specs.Sums.{Σ}
-use Rattle.letters.specs.Matrices.{Letters, pauli, decoherence, lettersOf, matrix}
+use Rattle.letters.specs.Matrices.{pauli, decoherence, lettersOf, matrix}
 use Rattle.letters.specs.Rows.{columnOf, rowPower}
 use Rattle.letters.specs.declared.Kind.{Kind}
 use Rattle.letters.proofs.TestLaws.{and-true, and-left, and-right, bool-ext, eqb-sym}
@@ -242,10 +242,6 @@ module _ (n : ℕ) (f g : ℕ → ℕ) (hf : (s : ℕ) → s < n → f s < 4) (h
 -- ---- the columns are in the row, over any numbers
 
 module _ {C N : Type 0} (A : Numbers C N) (n : ℕ) where
-  pub operator-below : (M : Letters) (r : ℕ) (f : ℕ → ℕ) (c : C) → Below (2 ^ n) (operatorTerms A n M r f c)
-  unfolding operatorTerms Below
-  operator-below M r f c = (columnOf-lt M n f r, tt)
-
   pub commutator-below : (k l : ℕ) (f : ℕ → ℕ) (c : C) → k < 2 ^ n → l < 2 ^ n → Below (2 ^ n * 2 ^ n) (commutatorTerms A n k l f c)
   unfolding commutatorTerms Below
   commutator-below k l f c hk hl =

@@ -1,15 +1,13 @@
 -- Contributions as three arrays of numbers, and the delivery of a row into three lent buffers: over any numbers of two parts, and in f64.
 use mathlib.Core.Path.{_≡_}
-use Prim.Native.Nat.{ℕ, zero, suc, _≤_, _<_}
+use Prim.Native.Nat.{ℕ, zero, suc}
 use mathlib.Core.Bool.{Bool, _&&_, cond}
-use mathlib.Core.List.{List, [], _∷_, _++_, map}
+use mathlib.Core.List.{List, [], _∷_, _++_}
 use lib.Dec.{leb}
 use lib.ListN.{length, drop, getD}
 use lib.Ieee.{Float, nan}
 use Rattle.refusal.specs.Refusals.{Said, gives, refuses, number, siteOf}
-use Rattle.complex.specs.Complex.{sumOf, isZero}
 use Rattle.complex.specs.declared.Complex.{Complex}
-use Rattle.rows.specs.Placing.{rowOf, placeAll, nonzero}
 use Rattle.rows.specs.declared.Delivery.{Delivery}
 
 -- the most contributions: 2 of each of 64 terms of a Hamiltonian and 3 of each of 64 pairs of noise
@@ -47,29 +45,9 @@ module _ {N X : Type 0} (P : TwoParts N X) where
   entriesIn cs xs ys zero = []
   entriesIn cs xs ys (suc n) = entriesIn cs xs ys n ++ (entryIn cs xs ys n ∷ [])
 
-abbrev pub valueAt : List Float → List Float → ℕ → Complex
-valueAt xs ys i = valueIn floatParts xs ys i
-
-abbrev pub entryAt : List ℕ → List Float → List Float → ℕ → ℕ × Complex
-entryAt cs xs ys i = entryIn floatParts cs xs ys i
-
+-- in f64
 abbrev pub entries : List ℕ → List Float → List Float → ℕ → List (ℕ × Complex)
 entries cs xs ys n = entriesIn floatParts cs xs ys n
-
--- entries with zero sums, or without
-unfoldable pub keptBy : {N : Type 0} → (N → Bool) → Bool → List (ℕ × N) → List (ℕ × N)
-keptBy isZero zeros l = cond zeros l (nonzero isZero l)
-
-abbrev pub kept : Bool → List (ℕ × Complex) → List (ℕ × Complex)
-kept zeros l = keptBy isZero zeros l
-
--- a row of f64 contributions: zero sums kept, or left out
-unfoldable pub floatRow : Bool → List (ℕ × Complex) → List (ℕ × Complex)
-floatRow zeros l = kept zeros (rowOf sumOf l)
-
--- "where both have one, noise is added to the commutator entry, and a zero there is kept"
-unfoldable pub openRow : List (ℕ × Complex) → List (ℕ × Complex) → List (ℕ × Complex)
-openRow commutator noise = placeAll sumOf noise commutator
 
 -- ---- delivery: "places past the count keep what they had"; 10 "a lent buffer shorter than the row's entries"
 
@@ -83,30 +61,3 @@ laid room s old = cond room (s ++ drop (length s) old) old
 abbrev pub saidDelivery : Delivery → Said ℕ
 saidDelivery (Delivery.Count n) = gives n
 saidDelivery (Delivery.Refused why) = refuses (number why) (siteOf why)
-
--- what a call answers that is refused for what it is handed, with the buffers as they were
-pub record Untouched {X : Type 0} (r : Said ℕ) (a a′ : List ℕ) (b b′ c c′ : List X) : Type 0 where
-  pub answer : r ≡ refuses 0 []
-  pub columns : a′ ≡ a
-  pub reals : b′ ≡ b
-  pub imaginaries : c′ ≡ c
-
-module _ {N X : Type 0} (P : TwoParts N X) where
-  -- what a call that delivers the row l answers, and what the three buffers hold after it
-  pub record DeliveredIn (l : List (ℕ × N)) (r : Said ℕ) (a a′ : List ℕ) (b b′ c c′ : List X) : Type 0 where
-    pub answer : r ≡ cond (roomFor (length l) a b c) (gives (length l)) (refuses 10 [])
-    pub columns : a′ ≡ laid (roomFor (length l) a b c) (map (λ e. e .0) l) a
-    pub reals : b′ ≡ laid (roomFor (length l) a b c) (map (λ e. P .re (e .1)) l) b
-    pub imaginaries : c′ ≡ laid (roomFor (length l) a b c) (map (λ e. P .im (e .1)) l) c
-
-  -- what a call answers that is handed n contributions whose row is l
-  pub record AnsweredIn (n : ℕ) (l : List (ℕ × N)) (r : Said ℕ) (a a′ : List ℕ) (b b′ c c′ : List X) : Type 0 where
-    pub within : n ≤ mostEntries → DeliveredIn l r a a′ b b′ c c′
-    pub over : mostEntries < n → Untouched r a a′ b b′ c c′
-
--- the same in f64
-abbrev pub Delivered : List (ℕ × Complex) → Said ℕ → (a a′ : List ℕ) (b b′ c c′ : List Float) → Type 0
-Delivered l r a a′ b b′ c c′ = DeliveredIn floatParts l r a a′ b b′ c c′
-
-abbrev pub Answered : ℕ → List (ℕ × Complex) → Said ℕ → (a a′ : List ℕ) (b b′ c c′ : List Float) → Type 0
-Answered n l r a a′ b b′ c c′ = AnsweredIn floatParts n l r a a′ b b′ c c′

@@ -2,7 +2,7 @@
 -- Document 01, `Rows` and `Numbers of the no`.
 use mathlib.Core.Path.{_≡_}
 use Prim.Native.Nat.{ℕ, _-_}
-use mathlib.Core.Bool.{cond}
+use mathlib.Core.Bool.{Bool, cond}
 use mathlib.Core.List.{List, [], _∷_, map}
 use lib.Dec.{leb, ltb}
 use lib.ListN.{length}
@@ -30,6 +30,10 @@ checkedRow n rows r ps row =
     cond (ltb mostSpins n) (refuses 7 [])
     (cond (leb rows r) (refuses 9 [])
     (unlessOutside (outside n ps) row))
+
+-- 0 where the contributions handed in are not good: too many, or one too large
+unfoldable pub unlessMalformed : {N : Type 0} → Bool → List (ℕ × N) → Said (List (ℕ × N))
+unlessMalformed good row = cond good (gives row) (refuses 0 [])
 
 -- ---- what a call answers, and what a buffer holds after it
 

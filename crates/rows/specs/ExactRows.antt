@@ -1,16 +1,17 @@
--- Rows over whole numbers counted in halves, in signed 64-bit parts: the contributions of a coefficient, the row, and what a call that delivers it
--- answers. Document 01, `Rows`: "the same sums over whole numbers, counted in halves (signed 64-bit parts), zero sums left out".
+-- Rows over whole numbers counted in halves, in signed 64-bit parts: what a call that delivers such a row answers.
+-- Document 01, `Rows`: "the same sums over whole numbers, counted in halves (signed 64-bit parts), zero sums left out".
 use Prim.Native.Nat.{ℕ, _^_}
-use mathlib.Core.Bool.{Bool, true, _&&_, cond}
+use mathlib.Core.Bool.{Bool, true, false, _&&_, cond}
 use mathlib.Core.List.{List, [], _∷_}
 use lib.Dec.{leb}
 use lib.IntN.{ℤ, pos, natAbs}
 use lib.ListN.{length}
-use Rattle.refusal.specs.Refusals.{Said, gives, refuses}
-use Rattle.letters.specs.Gauss.{G, 𝟘, _⊕_, eqG}
-use Rattle.rows.specs.Placing.{rowOf, nonzero}
-use Rattle.rows.specs.Buffers.{TwoParts, mostEntries, entriesIn, DeliveredIn}
-use Rattle.rows.specs.Calls.{RowCallIn}
+use Rattle.refusal.specs.Refusals.{Said}
+use Rattle.letters.specs.Gauss.{G, 𝟘}
+use Rattle.rows.specs.Numbers.{halves}
+use Rattle.rows.specs.Placing.{rowIn}
+use Rattle.rows.specs.Buffers.{TwoParts, mostEntries, entriesIn}
+use Rattle.rows.specs.Calls.{unlessMalformed, RowCallIn}
 
 -- the whole number x + y i
 abbrev pub whole : ℤ → ℤ → G
@@ -23,19 +24,9 @@ wholeParts = record { re = λ z. z .re; im = λ z. z .im; both = whole; beyond =
 abbrev pub exactEntries : List ℕ → List ℤ → List ℤ → ℕ → List (ℕ × G)
 exactEntries cs xs ys n = entriesIn wholeParts cs xs ys n
 
-abbrev pub isWholeZero : G → Bool
-isWholeZero x = eqG x 𝟘
-
--- "zero sums left out", by ascending column
-unfoldable pub exactRowOf : List (ℕ × G) → List (ℕ × G)
-exactRowOf l = nonzero isWholeZero (rowOf _⊕_ l)
-
 -- ---- sizes that fit 64 bits
 
--- the largest part of a coefficient, twice of which is contributed, and the largest part of a contribution: 320 of them stay below 2^63
-abbrev pub largestCoefficient : ℕ
-largestCoefficient = 2 ^ 50
-
+-- the largest part of a contribution: 320 of them stay below 2^63
 abbrev pub largestContribution : ℕ
 largestContribution = 2 ^ 52
 
@@ -48,17 +39,10 @@ unfoldable pub allSmall : List (ℕ × G) → Bool
 allSmall [] = true
 allSmall (x ∷ xs) = within largestContribution (x .1) && allSmall xs
 
--- a coefficient as it is taken: 0 where it is too large
-unfoldable pub taken : G → G
-taken c = cond (within largestCoefficient c) c 𝟘
-
 -- ---- what a call answers that is handed the contributions l: 0 where there are too many, or one is too large
 
 unfoldable pub exactAnswer : List (ℕ × G) → Said (List (ℕ × G))
-exactAnswer l = cond (leb (length l) mostEntries && allSmall l) (gives (exactRowOf l)) (refuses 0 [])
-
-abbrev pub ExactDelivered : List (ℕ × G) → Said ℕ → (a a′ : List ℕ) (b b′ c c′ : List ℤ) → Type 0
-ExactDelivered l r a a′ b b′ c c′ = DeliveredIn wholeParts l r a a′ b b′ c c′
+exactAnswer l = unlessMalformed (leb (length l) mostEntries && allSmall l) (rowIn halves false l)
 
 abbrev pub ExactCall : Said (List (ℕ × G)) → Said ℕ → (a a′ : List ℕ) (b b′ c c′ : List ℤ) → Type 0
 ExactCall x r a a′ b b′ c c′ = RowCallIn wholeParts x r a a′ b b′ c c′

@@ -2,7 +2,6 @@ pub mod Placing
 pub mod Equation
 pub mod Numbers
 pub mod Contributions
-pub mod Entries
 pub mod Sums
 pub mod Sorting
 pub mod Buffers

@@ -1,9 +1,10 @@
 // The row of an open system: the noise row's entries placed into the commutator row.
 ghost use mathlib.Core.Path.{_≡_};
 ghost use mathlib.Core.List.{_++_};
-ghost use mathlib.Core.Bool.{true, false};
 ghost use Prim.Native.Nat.{_+_, _≤_};
-ghost use Rattle.rows.specs.Buffers.{Long, entries, floatRow, openRow};
+ghost use Rattle.rows.specs.Numbers.{floats};
+ghost use Rattle.rows.specs.Placing.{openRowIn};
+ghost use Rattle.rows.specs.Buffers.{Long, entries};
 use crate::sort::merged_places;
 use crate::sums::add_up;
 use crate::sums::collected;
@@ -47,7 +48,7 @@ pub(crate) fn open_row(
     out_im: &mut [f64; 320],
 ) -> usize
     requires { ⌜ («c_n» + «n_n» ≤ 320) × Long (now «out_columns») (now «out_re») (now «out_im») ⌝ }
-    ensures { λ r. ⌜ (r ≤ 320) × (entries (now («out_columns» .exit)) (now («out_re» .exit)) (now («out_im» .exit)) r ≡ openRow (floatRow false (entries (now («c_columns» .entry)) (now («c_re» .entry)) (now («c_im» .entry)) «c_n»)) (floatRow true (entries (now («n_columns» .entry)) (now («n_re» .entry)) (now («n_im» .entry)) «n_n»))) × Long (now («out_columns» .exit)) (now («out_re» .exit)) (now («out_im» .exit)) ⌝ }
+    ensures { λ r. ⌜ (r ≤ 320) × (entries (now («out_columns» .exit)) (now («out_re» .exit)) (now («out_im» .exit)) r ≡ openRowIn floats (entries (now («c_columns» .entry)) (now («c_re» .entry)) (now («c_im» .entry)) «c_n») (entries (now («n_columns» .entry)) (now («n_re» .entry)) (now («n_im» .entry)) «n_n»)) × Long (now («out_columns» .exit)) (now («out_re» .exit)) (now («out_im» .exit)) ⌝ }
 {
     let mut a = [0u64; 320];
     let mut b = [0.0f64; 320];

@@ -4,11 +4,13 @@ ghost use mathlib.Core.Bool.{true, false};
 ghost use mathlib.Core.List.{[], _∷_, _++_, map};
 ghost use Prim.Native.Nat.{_+_, _≤_, _<_};
 ghost use lib.ListN.{length, take, drop};
-ghost use Rattle.letters.specs.Gauss.{_⊕_};
+ghost use Rattle.refusal.specs.Refusals.{gives};
 ghost use Rattle.letters.specs.Tests.{every};
 ghost use Rattle.rows.specs.Sorting.{All, Places, neighboursAdded};
-ghost use Rattle.rows.specs.Buffers.{Long, valueIn, entryIn, keptBy, saidDelivery};
-ghost use Rattle.rows.specs.ExactRows.{whole, wholeParts, exactEntries, isWholeZero, exactRowOf, within, largestContribution, allSmall, ExactDelivered};
+ghost use Rattle.rows.specs.Numbers.{halves};
+ghost use Rattle.rows.specs.Placing.{keptBy, rowIn};
+ghost use Rattle.rows.specs.Buffers.{Long, valueIn, entryIn, saidDelivery};
+ghost use Rattle.rows.specs.ExactRows.{whole, wholeParts, exactEntries, within, largestContribution, allSmall, ExactCall};
 use crate::Delivery;
 use crate::halves::Halves;
 use crate::halves::both_within;
@@ -56,7 +58,7 @@ fn put(
     count: usize,
 ) -> usize
     requires { ⌜ (count < 320) × Long (now «out_columns») (now «out_re») (now «out_im») ⌝ }
-    ensures { λ r. ⌜ (r ≤ count + 1) × (exactEntries (now («out_columns» .exit)) (now («out_re» .exit)) (now («out_im» .exit)) r ≡ exactEntries (now («out_columns» .entry)) (now («out_re» .entry)) (now («out_im» .entry)) count ++ keptBy isWholeZero false ((column, whole (value .re) (value .im)) ∷ [])) × Long (now («out_columns» .exit)) (now («out_re» .exit)) (now («out_im» .exit)) ⌝ }
+    ensures { λ r. ⌜ (r ≤ count + 1) × (exactEntries (now («out_columns» .exit)) (now («out_re» .exit)) (now («out_im» .exit)) r ≡ exactEntries (now («out_columns» .entry)) (now («out_re» .entry)) (now («out_im» .entry)) count ++ keptBy (halves .isZero) false ((column, whole (value .re) (value .im)) ∷ [])) × Long (now («out_columns» .exit)) (now («out_re» .exit)) (now («out_im» .exit)) ⌝ }
 {
     if value.is_zero() {
         return count;
@@ -81,7 +83,7 @@ fn add_up(
     out_im: &mut [i64; 320],
 ) -> usize
     requires { ⌜ (n ≤ 320) × Places (now places) × All (λ p. within largestContribution (valueIn wholeParts (now re) (now im) p) ≡ true) (take n (now places)) × Long (now «out_columns») (now «out_re») (now «out_im») ⌝ }
-    ensures { λ r. ⌜ (r ≤ n) × (exactEntries (now («out_columns» .exit)) (now («out_re» .exit)) (now («out_im» .exit)) r ≡ keptBy isWholeZero false (neighboursAdded _⊕_ (map (entryIn wholeParts (now (columns .entry)) (now (re .entry)) (now (im .entry))) (take n (now (places .entry)))))) × Long (now («out_columns» .exit)) (now («out_re» .exit)) (now («out_im» .exit)) ⌝ }
+    ensures { λ r. ⌜ (r ≤ n) × (exactEntries (now («out_columns» .exit)) (now («out_re» .exit)) (now («out_im» .exit)) r ≡ keptBy (halves .isZero) false (neighboursAdded (halves .sum) (map (entryIn wholeParts (now (columns .entry)) (now (re .entry)) (now (im .entry))) (take n (now (places .entry)))))) × Long (now («out_columns» .exit)) (now («out_re» .exit)) (now («out_im» .exit)) ⌝ }
 {
     if n == 0 {
         return 0;
@@ -118,7 +120,7 @@ pub(crate) fn collected(
     out_im: &mut [i64; 320],
 ) -> usize
     requires { ⌜ (n ≤ 320) × (allSmall (exactEntries (now columns) (now re) (now im) n) ≡ true) × Long (now «out_columns») (now «out_re») (now «out_im») ⌝ }
-    ensures { λ r. ⌜ (r ≤ n) × (exactEntries (now («out_columns» .exit)) (now («out_re» .exit)) (now («out_im» .exit)) r ≡ exactRowOf (exactEntries (now (columns .entry)) (now (re .entry)) (now (im .entry)) n)) × Long (now («out_columns» .exit)) (now («out_re» .exit)) (now («out_im» .exit)) ⌝ }
+    ensures { λ r. ⌜ (r ≤ n) × (exactEntries (now («out_columns» .exit)) (now («out_re» .exit)) (now («out_im» .exit)) r ≡ rowIn halves false (exactEntries (now (columns .entry)) (now (re .entry)) (now (im .entry)) n)) × Long (now («out_columns» .exit)) (now («out_re» .exit)) (now («out_im» .exit)) ⌝ }
 {
     let places = sorted_places(columns, n);
     add_up(columns, re, im, &places, n, out_columns, out_re, out_im)
@@ -148,7 +150,7 @@ pub(crate) fn handed_over(
     out_im: &mut [i64],
 ) -> Delivery
     requires { ⌜ (n ≤ 320) × Long (now columns) (now re) (now im) ⌝ }
-    ensures { λ r. ⌜ ExactDelivered (exactEntries (now (columns .entry)) (now (re .entry)) (now (im .entry)) n) (saidDelivery r) (now («out_columns» .entry)) (now («out_columns» .exit)) (now («out_re» .entry)) (now («out_re» .exit)) (now («out_im» .entry)) (now («out_im» .exit)) ⌝ }
+    ensures { λ r. ⌜ ExactCall (gives (exactEntries (now (columns .entry)) (now (re .entry)) (now (im .entry)) n)) (saidDelivery r) (now («out_columns» .entry)) (now («out_columns» .exit)) (now («out_re» .entry)) (now («out_re» .exit)) (now («out_im» .entry)) (now («out_im» .exit)) ⌝ }
 {
     if out_columns.len() < n {
         return Delivery::Refused(Refusal::BufferTooShort);

@@ -1,14 +1,17 @@
 // Rows from contributions: sorted by column, added up, delivered into lent buffers.
 ghost use mathlib.Core.Path.{_≡_};
 ghost use mathlib.Core.List.{_++_};
-ghost use mathlib.Core.Bool.{true, false};
 ghost use Prim.Native.Nat.{_+_, _≤_};
+ghost use lib.Dec.{leb};
 ghost use lib.ListN.{length, take, drop};
+ghost use Rattle.refusal.specs.Refusals.{gives};
 ghost use Rattle.rows.specs.ExactRows.{exactEntries, exactAnswer, ExactCall};
-ghost use Rattle.rows.specs.Buffers.{Long, Delivered, Answered, saidDelivery, entries, floatRow, openRow};
+ghost use Rattle.rows.specs.Numbers.{floats};
+ghost use Rattle.rows.specs.Placing.{rowIn, openRowIn};
+ghost use Rattle.rows.specs.Buffers.{mostEntries, Long, saidDelivery, entries};
+ghost use Rattle.rows.specs.Calls.{unlessMalformed, RowCall};
 
 mod both;
-pub mod entries;
 mod exact;
 pub mod halves;
 mod sort;
@@ -59,7 +62,7 @@ fn handed_over(
     out_im: &mut [f64],
 ) -> Delivery
     requires { ⌜ (n ≤ 320) × Long (now columns) (now re) (now im) ⌝ }
-    ensures { λ r. ⌜ Delivered (entries (now (columns .entry)) (now (re .entry)) (now (im .entry)) n) (saidDelivery r) (now («out_columns» .entry)) (now («out_columns» .exit)) (now («out_re» .entry)) (now («out_re» .exit)) (now («out_im» .entry)) (now («out_im» .exit)) ⌝ }
+    ensures { λ r. ⌜ RowCall (gives (entries (now (columns .entry)) (now (re .entry)) (now (im .entry)) n)) (saidDelivery r) (now («out_columns» .entry)) (now («out_columns» .exit)) (now («out_re» .entry)) (now («out_re» .exit)) (now («out_im» .entry)) (now («out_im» .exit)) ⌝ }
 {
     if out_columns.len() < n {
         return Delivery::Refused(Refusal::BufferTooShort);
@@ -87,7 +90,7 @@ pub fn deliver(
     out_re: &mut [f64],
     out_im: &mut [f64],
 ) -> Delivery
-    ensures { λ r. ⌜ Answered n (floatRow zeros (entries (now (columns .entry)) (now (re .entry)) (now (im .entry)) n)) (saidDelivery r) (now («out_columns» .entry)) (now («out_columns» .exit)) (now («out_re» .entry)) (now («out_re» .exit)) (now («out_im» .entry)) (now («out_im» .exit)) ⌝ }
+    ensures { λ r. ⌜ RowCall (unlessMalformed (leb n mostEntries) (rowIn floats zeros (entries (now (columns .entry)) (now (re .entry)) (now (im .entry)) n))) (saidDelivery r) (now («out_columns» .entry)) (now («out_columns» .exit)) (now («out_re» .entry)) (now («out_re» .exit)) (now («out_im» .entry)) (now («out_im» .exit)) ⌝ }
 {
     if n > 320 {
         return Delivery::Refused(Refusal::Malformed);
@@ -113,7 +116,7 @@ pub fn deliver_both(
     out_re: &mut [f64],
     out_im: &mut [f64],
 ) -> Delivery
-    ensures { λ r. ⌜ Answered («c_n» + «n_n») (openRow (floatRow false (entries (now («c_columns» .entry)) (now («c_re» .entry)) (now («c_im» .entry)) «c_n»)) (floatRow true (entries (now («n_columns» .entry)) (now («n_re» .entry)) (now («n_im» .entry)) «n_n»))) (saidDelivery r) (now («out_columns» .entry)) (now («out_columns» .exit)) (now («out_re» .entry)) (now («out_re» .exit)) (now («out_im» .entry)) (now («out_im» .exit)) ⌝ }
+    ensures { λ r. ⌜ RowCall (unlessMalformed (leb («c_n» + «n_n») mostEntries) (openRowIn floats (entries (now («c_columns» .entry)) (now («c_re» .entry)) (now («c_im» .entry)) «c_n») (entries (now («n_columns» .entry)) (now («n_re» .entry)) (now («n_im» .entry)) «n_n»))) (saidDelivery r) (now («out_columns» .entry)) (now («out_columns» .exit)) (now («out_re» .entry)) (now («out_re» .exit)) (now («out_im» .entry)) (now («out_im» .exit)) ⌝ }
 {
     if c_n > 320 {
         return Delivery::Refused(Refusal::Malformed);
@@ -140,7 +143,7 @@ pub fn deliver_both(
     handed_over(&a, &b, &c, count, out_columns, out_re, out_im)
 }
 
-// The exact row of the first n contributions. One with a part over 2^52 in size is refused, since 320 of them could pass 64 bits.
+// The exact row of the first n contributions. One with a part over 2^52 in size is refused, so that the sum of 320 of them fits 64 bits.
 pub fn deliver_exact(
     columns: &[u64; 320],
     re: &[i64; 320],

@@ -3,16 +3,17 @@ ghost use mathlib.Core.Path.{_≡_};
 ghost use mathlib.Core.List.{[], _∷_, _++_, map};
 ghost use Prim.Native.Nat.{_+_, _≤_, _<_};
 ghost use lib.ListN.{take};
-ghost use Rattle.complex.specs.Complex.{sumOf};
 ghost use Rattle.rows.specs.Sorting.{Places, neighboursAdded};
-ghost use Rattle.rows.specs.Buffers.{Long, valueAt, entryAt, entries, kept, floatRow};
+ghost use Rattle.rows.specs.Numbers.{floats};
+ghost use Rattle.rows.specs.Placing.{keptBy, rowIn};
+ghost use Rattle.rows.specs.Buffers.{Long, floatParts, valueIn, entryIn, entries};
 use crate::sort::sorted_places;
 use complex::Complex;
 
 // The value of a contribution.
 fn value_at(re: &[f64; 320], im: &[f64; 320], at: usize) -> Complex
     requires { ⌜ at < 320 ⌝ }
-    ensures { λ r. ⌜ r ≡ valueAt (now (re .entry)) (now (im .entry)) at ⌝ }
+    ensures { λ r. ⌜ r ≡ valueIn floatParts (now (re .entry)) (now (im .entry)) at ⌝ }
 {
     Complex {
         re: re[at],
@@ -31,7 +32,7 @@ fn put(
     count: usize,
 ) -> usize
     requires { ⌜ (count < 320) × Long (now «out_columns») (now «out_re») (now «out_im») ⌝ }
-    ensures { λ r. ⌜ (r ≤ count + 1) × (entries (now («out_columns» .exit)) (now («out_re» .exit)) (now («out_im» .exit)) r ≡ entries (now («out_columns» .entry)) (now («out_re» .entry)) (now («out_im» .entry)) count ++ kept zeros ((column, value) ∷ [])) × Long (now («out_columns» .exit)) (now («out_re» .exit)) (now («out_im» .exit)) ⌝ }
+    ensures { λ r. ⌜ (r ≤ count + 1) × (entries (now («out_columns» .exit)) (now («out_re» .exit)) (now («out_im» .exit)) r ≡ entries (now («out_columns» .entry)) (now («out_re» .entry)) (now («out_im» .entry)) count ++ keptBy (floats .isZero) zeros ((column, value) ∷ [])) × Long (now («out_columns» .exit)) (now («out_re» .exit)) (now («out_im» .exit)) ⌝ }
 {
     if !zeros {
         if value.is_zero() {
@@ -57,7 +58,7 @@ pub(crate) fn add_up(
     out_im: &mut [f64; 320],
 ) -> usize
     requires { ⌜ (n ≤ 320) × Places (now places) × Long (now «out_columns») (now «out_re») (now «out_im») ⌝ }
-    ensures { λ r. ⌜ (r ≤ n) × (entries (now («out_columns» .exit)) (now («out_re» .exit)) (now («out_im» .exit)) r ≡ kept zeros (neighboursAdded sumOf (map (entryAt (now (columns .entry)) (now (re .entry)) (now (im .entry))) (take n (now (places .entry)))))) × Long (now («out_columns» .exit)) (now («out_re» .exit)) (now («out_im» .exit)) ⌝ }
+    ensures { λ r. ⌜ (r ≤ n) × (entries (now («out_columns» .exit)) (now («out_re» .exit)) (now («out_im» .exit)) r ≡ keptBy (floats .isZero) zeros (neighboursAdded (floats .sum) (map (entryIn floatParts (now (columns .entry)) (now (re .entry)) (now (im .entry))) (take n (now (places .entry)))))) × Long (now («out_columns» .exit)) (now («out_re» .exit)) (now («out_im» .exit)) ⌝ }
 {
     if n == 0 {
         return 0;
@@ -95,7 +96,7 @@ pub(crate) fn collected(
     out_im: &mut [f64; 320],
 ) -> usize
     requires { ⌜ (n ≤ 320) × Long (now «out_columns») (now «out_re») (now «out_im») ⌝ }
-    ensures { λ r. ⌜ (r ≤ n) × (entries (now («out_columns» .exit)) (now («out_re» .exit)) (now («out_im» .exit)) r ≡ floatRow zeros (entries (now (columns .entry)) (now (re .entry)) (now (im .entry)) n)) × Long (now («out_columns» .exit)) (now («out_re» .exit)) (now («out_im» .exit)) ⌝ }
+    ensures { λ r. ⌜ (r ≤ n) × (entries (now («out_columns» .exit)) (now («out_re» .exit)) (now («out_im» .exit)) r ≡ rowIn floats zeros (entries (now (columns .entry)) (now (re .entry)) (now (im .entry)) n)) × Long (now («out_columns» .exit)) (now («out_re» .exit)) (now («out_im» .exit)) ⌝ }
 {
     let places = sorted_places(columns, n);
     add_up(

@@ -14,11 +14,10 @@ use Rattle.letters.specs.Gauss.{G, 𝟘, _⊕_, eqG}
 use Rattle.letters.proofs.GaussLaws.{eqG-same}
 use Rattle.terms.specs.Keyed.{each}
 use Rattle.terms.proofs.KeyedLaws.{each-cons, each-head, each-tail}
-use Rattle.rows.specs.Placing.{rowOf, nonzero}
+use Rattle.rows.specs.Numbers.{halves}
+use Rattle.rows.specs.Placing.{rowOf, nonzero, keptBy, rowIn}
 use Rattle.rows.specs.Sums.{Ascending, Below, contributionsTo, sumAt, valueAt}
-use Rattle.rows.specs.ExactRows.{exactRowOf}
-use Rattle.rows.proofs.PlacingLaws.{none-before, same-numbers, row-below}
-use Rattle.rows.proofs.ExactLaws.{exact-value, exact-ascending}
+use Rattle.rows.proofs.PlacingLaws.{none-before, same-numbers, row-below, rowIn-ascending, rowIn-value}
 
 -- no number is zero
 abbrev pub NoZero : List (ℕ × G) → Type 0
@@ -87,15 +86,21 @@ nonzero-below d (x ∷ xs) b = go (eqG (x .1) 𝟘) (nonzero-below d xs (b .1))
     go true r = r
     go false r = (b .0, r)
 
--- two such rows are one exactly where the sums at the columns below d are
-pub exact-rows-known : (d : ℕ) (es fs : List (ℕ × G)) → Below d es → Below d fs → (exactRowOf es ≡ exactRowOf fs) ↔ ((c : ℕ) → c < d → sumAt c es ≡ sumAt c fs)
-unfolding exactRowOf
-exact-rows-known d es fs be bf =
-    (λ e c h. sym (exact-value c es) ∙ known .0 e c h ∙ exact-value c fs, λ e. known .1 (λ c h. exact-value c es ∙ e c h ∙ sym (exact-value c fs)))
-  where
-    within : (es : List (ℕ × G)) → Below d es → Below d (exactRowOf es)
-    within es b = nonzero-below d (rowOf _⊕_ es) (row-below _⊕_ d es b)
+-- so it is with an exact row
+exact-none : (es : List (ℕ × G)) → NoZero (rowIn halves false es)
+unfolding rowIn keptBy
+exact-none es = nonzero-none (rowOf _⊕_ es)
 
-    known : (exactRowOf es ≡ exactRowOf fs) ↔ ((c : ℕ) → c < d → valueAt c (exactRowOf es) ≡ valueAt c (exactRowOf fs))
+exact-below : (d : ℕ) (es : List (ℕ × G)) → Below d es → Below d (rowIn halves false es)
+unfolding rowIn keptBy
+exact-below d es b = nonzero-below d (rowOf _⊕_ es) (row-below _⊕_ d es b)
+
+-- two such rows are one exactly where the sums at the columns below d are
+pub exact-rows-known : (d : ℕ) (es fs : List (ℕ × G)) → Below d es → Below d fs → (rowIn halves false es ≡ rowIn halves false fs) ↔ ((c : ℕ) → c < d → sumAt c es ≡ sumAt c fs)
+exact-rows-known d es fs be bf =
+    (λ e c h. sym (rowIn-value false c es) ∙ known .0 e c h ∙ rowIn-value false c fs, λ e. known .1 (λ c h. rowIn-value false c es ∙ e c h ∙ sym (rowIn-value false c fs)))
+  where
+    known : (rowIn halves false es ≡ rowIn halves false fs) ↔ ((c : ℕ) → c < d → valueAt c (rowIn halves false es) ≡ valueAt c (rowIn halves false fs))
     known =
-        rows-known-below d (exactRowOf es) (exactRowOf fs) (exact-ascending es) (exact-ascending fs) (nonzero-none (rowOf _⊕_ es)) (nonzero-none (rowOf _⊕_ fs)) (within es be) (within fs bf)
+        rows-known-below d (rowIn halves false es) (rowIn halves false fs) (rowIn-ascending halves false es) (rowIn-ascending halves false fs)
+        (exact-none es) (exact-none fs) (exact-below d es be) (exact-below d fs bf)

@@ -2,7 +2,7 @@
 ghost use mathlib.Core.Path.{_≡_};
 ghost use Prim.Native.Nat.{_≤_};
 ghost use lib.IntN.{natAbs};
-use open_system::PauliOpenSystem;
+use open_system::PauliLindbladOpenSystem;
 use open_system::exact_row::exact_row;
 use rows::Delivery;
 
@@ -10,7 +10,7 @@ const SPINS: u32 = 1;
 
 // An exact row into lent places; how many entries it has, none where it is refused.
 fn row_into(
-    s: PauliOpenSystem,
+    s: PauliLindbladOpenSystem,
     row: u64,
     columns: &mut [u64; 4],
     re: &mut [i64; 4],
@@ -25,7 +25,7 @@ fn row_into(
 }
 
 // How many entries a row has.
-fn entries_of(s: PauliOpenSystem, row: u64) -> usize
+fn entries_of(s: PauliLindbladOpenSystem, row: u64) -> usize
     ensures { λ r. ⌜ r ≤ 4 ⌝ }
 {
     let mut columns = [0u64; 4];
@@ -35,7 +35,7 @@ fn entries_of(s: PauliOpenSystem, row: u64) -> usize
 }
 
 // The spins and how many entries the four rows have.
-pub(crate) fn print_header(s: PauliOpenSystem) {
+pub(crate) fn print_header(s: PauliLindbladOpenSystem) {
     let n = entries_of(s, 0) + entries_of(s, 1) + entries_of(s, 2) + entries_of(s, 3);
     io::write_all(1, b"spins ");
     io::print_decimal(1, SPINS as u64);
@@ -76,7 +76,7 @@ fn print_entry(row: u64, column: u64, re: i64, im: i64) {
 }
 
 // A row, by ascending column.
-pub(crate) fn print_row(s: PauliOpenSystem, row: u64) {
+pub(crate) fn print_row(s: PauliLindbladOpenSystem, row: u64) {
     let mut columns = [0u64; 4];
     let mut re = [0i64; 4];
     let mut im = [0i64; 4];

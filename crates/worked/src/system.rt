@@ -1,7 +1,7 @@
 // The system whose rows are printed, made by the entries that callers have.
 use complex::Complex;
 use noise::pauli_noise_operator::PauliLindbladNoiseOperator;
-use open_system::PauliOpenSystem;
+use open_system::PauliLindbladOpenSystem;
 use operators::pauli_hamiltonian::PauliHamiltonian;
 use products::decoherence_product::DecoherenceProduct;
 use products::pauli_product::PauliProduct;
@@ -26,7 +26,7 @@ fn noise() -> PauliLindbladNoiseOperator {
     a.operator
 }
 
-pub(crate) fn worked() -> PauliOpenSystem {
-    let a = PauliOpenSystem::group(hamiltonian(), noise());
+pub(crate) fn worked() -> PauliLindbladOpenSystem {
+    let a = PauliLindbladOpenSystem::group(hamiltonian(), noise());
     a.system
 }

@@ -31,7 +31,7 @@ returns c t w given pairs ok =
     let n = d .before .before .before .before .before .before .before .before .before .before in
     let h = n .before .before .before .before in
     let s = h .before .before .before .before .before .before .before in
-    delivered-both (omega (arith, h .write-hamiltonian .ensures .0, s .pre .0)) (omega (arith, n .write-noise .ensures .0, s .pre .1))
+    delivered-both {k = h .write-hamiltonian .result} {m = n .write-noise .result} (omega (arith, h .write-hamiltonian .ensures .0, s .pre .0)) (omega (arith, n .write-noise .ensures .0, s .pre .1))
     (h .write-hamiltonian .ensures .1 (record { columns = search needs; reals = search needs; imaginaries = search needs }) t given (accepted-left _ _ ok))
     (n .write-noise .ensures .1 (record { columns = search needs; reals = search needs; imaginaries = search needs }) w pairs (accepted-right (itemsOf t) _ ok))
     (d .deliver-both .ensures)

@@ -3,7 +3,6 @@
 use mathlib.Core.Path.{_≡_, refl, sym, ap, _∙_}
 use mathlib.Core.Logic.{⊎-elim}
 use mathlib.Core.List.{[]}
-use native.Mathlib.Omega.{arith}
 use borrow.Author.Tests.{not-true, not-false}
 use borrow.Author.Needs.{needs}
 use Rattle.refusal.specs.Refusals.{carried}
@@ -54,7 +53,7 @@ returns-4 c =
     let e = f .before in
     let v = sym (real-judged _ (e .before .before .before .before .before .masked .ensures)) ∙ not-false _ (e .before .before .before .if1 .left) in
     let w = sym (pairs-judged _ (e .before .before .masked2 .ensures)) ∙ not-false _ (e .if2 .left) in
-    system-valid (e .before .before .before .before .before .before .before .before .before .args .s) _ _ v w _ refl (call-range _ _ _ _ _ (f .if3 .left) (pairs-size _ (c .before .size-of .ensures (omega (arith, f .if3 .left)))) (c .if4 .taken))
+    system-valid (e .before .before .before .before .before .before .before .before .before .args .s) _ _ v w _ refl (call-range _ _ _ _ _ (f .if3 .left) (pairs-size _ (c .before .size-of .ensures)) (c .if4 .taken))
 
 system-fits-requires : tie.Need-system-fits-requires
 system-fits-requires c κs =
@@ -65,7 +64,9 @@ system-fits-requires c κs =
     (real-few _ h (sym (real-judged _ h) ∙ not-false _ (e .before .before .before .if1 .left)), pairs-few _ n (sym (pairs-judged _ n) ∙ not-false _ (e .if2 .left)), f .if3 .left)
 
 complex-terms-requires : tie.Need-complex-terms-requires
-complex-terms-requires c κs = search needs
+complex-terms-requires c κs =
+    let e = c .before .before .before .before .before .before .before .before .before .before .before in
+    sym (real-judged _ (e .before .before .before .before .before .masked .ensures)) ∙ not-false _ (e .before .before .before .if1 .left)
 
 outside-site-requires : tie.Need-outside-site-requires
 outside-site-requires c κs = search needs
@@ -83,17 +84,18 @@ returns-5 c =
     let w = sym (pairs-judged _ (e .before .before .masked2 .ensures)) ∙ not-false _ (e .if2 .left) in
     let site = ap carried (sym (c .before .site .given .1)) ∙ c .before .before .before .outside-site .ensures in
     system-valid (e .before .before .before .before .before .before .before .before .before .args .s) _ _ v w _ (held-from _ _ (c .before .before .before .before .complex-terms .ensures))
-    (call-outside _ _ _ _ _ (f .if3 .left) (pairs-size _ (g .before .size-of .ensures (omega (arith, f .if3 .left)))) (g .if4 .left) site)
+    (call-outside _ _ _ _ _ (f .if3 .left) (pairs-size _ (g .before .size-of .ensures)) (g .if4 .left) site)
 
 enum-told : tie.Need-enum-told
 enum-told c = search needs
 
 delivered-requires : tie.Need-delivered-requires
 delivered-requires c κs =
-    let e = c .before .before .before .before .before .before .before .before .before .before .before .before .before .before .before .before .before .before .before .before .before .before .before in
+    let f = c .before .before .before .before .before .before .before .before .before .before .before .before .before .before .before .before .before .before .before .before .before .before in
+    let e = f .before in
     let h = e .before .before .before .before .before .masked .ensures in
     let n = e .before .before .masked2 .ensures in
-    (real-few _ h (sym (real-judged _ h) ∙ not-false _ (e .before .before .before .if1 .left)), pairs-few _ n (sym (pairs-judged _ n) ∙ not-false _ (e .if2 .left)))
+    (real-few _ h (sym (real-judged _ h) ∙ not-false _ (e .before .before .before .if1 .left)), pairs-few _ n (sym (pairs-judged _ n) ∙ not-false _ (e .if2 .left)), f .if3 .left)
 
 same-length : tie.Need-same-length
 same-length c = search needs
@@ -120,7 +122,7 @@ returns-6 c =
     let p = real-given _ h v in
     let q = pairs-given _ n w in
     let few = f .if3 .left in
-    let size = pairs-size _ (g .before .size-of .ensures (omega (arith, few))) in
+    let size = pairs-size _ (g .before .size-of .ensures) in
     let none : [] ≡ outside (a .spins) (itemsOf t l) =
     ⊎-elim
     (λ z. ap carried (sym (z .4 .given .1)) ∙ z .2 .ensures ∙ ap (λ u. outside (a .spins) (itemsOf u l)) (held-from _ _ (z .1 .ensures)))

@@ -5,7 +5,7 @@ use Rattle.rows.proofs.deliver.Statement.{statement}
 use Rattle.rows.proofs.deliver.Tie as tie
 
 returns : tie.Need-returns
-returns c = too-many _ _ _ _ _ (c .if1 .taken)
+returns c = too-many _ (c .if1 .taken)
 
 collected-requires : tie.Need-collected-requires
 collected-requires c κs = search needs

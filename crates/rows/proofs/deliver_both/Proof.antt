@@ -9,12 +9,12 @@ use Rattle.rows.proofs.deliver_both.Tie as tie
 returns : tie.Need-returns
 returns c =
     let a = c .before .before .before .before .args in
-    too-many (a .c-n + a .n-n) _ _ _ _ (omega (arith, c .if1 .taken))
+    too-many {n = a .c-n + a .n-n} _ (omega (arith, c .if1 .taken))
 
 returns-2 : tie.Need-returns-2
 returns-2 c =
     let a = c .before .before .before .before .before .args in
-    too-many (a .c-n + a .n-n) _ _ _ _ (omega (arith, c .before .if1 .left, c .if2 .taken))
+    too-many {n = a .c-n + a .n-n} _ (omega (arith, c .before .if1 .left, c .if2 .taken))
 
 open-row-requires : tie.Need-open-row-requires
 open-row-requires c κs = search needs

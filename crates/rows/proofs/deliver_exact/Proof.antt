@@ -6,7 +6,7 @@ use Rattle.rows.proofs.deliver_exact.Statement.{statement}
 use Rattle.rows.proofs.deliver_exact.Tie as tie
 
 returns : tie.Need-returns
-returns c = let a = c .before .before .args in exact-many (a .columns .now) (a .re .now) (a .im .now) (a .n) _ _ _ (c .if1 .taken)
+returns c = let a = c .before .before .args in exact-many (a .columns .now) (a .re .now) (a .im .now) (a .n) (c .if1 .taken)
 
 all-small-requires : tie.Need-all-small-requires
 all-small-requires c κs = search needs
@@ -14,7 +14,7 @@ all-small-requires c κs = search needs
 returns-2 : tie.Need-returns-2
 returns-2 c =
     let a = c .before .before .before .before .args in
-    exact-large (a .columns .now) (a .re .now) (a .im .now) (a .n) (c .before .before .if1 .left) (c .before .all-small .ensures) _ _ _ (not-true _ (c .if2 .taken))
+    exact-large (a .columns .now) (a .re .now) (a .im .now) (a .n) (c .before .before .if1 .left) (c .before .all-small .ensures) (not-true _ (c .if2 .taken))
 
 collected-requires : tie.Need-collected-requires
 collected-requires c κs =

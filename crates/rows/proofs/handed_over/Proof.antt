@@ -1,4 +1,4 @@
--- Each refusal is a buffer shorter than n; with room the three copies are what `Delivered` asks (`has-room`).
+-- Each refusal is a buffer shorter than n; with room the three copies are what a row call asks (`has-room`).
 use borrow.Author.Needs.{needs}
 use Rattle.rows.specs.Buffers.{floatParts}
 use Rattle.rows.proofs.ArrayLaws.{floats-faithful}

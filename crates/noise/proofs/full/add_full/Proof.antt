@@ -17,22 +17,22 @@ use Rattle.noise.proofs.full.add_full.Statement.{statement}
 use Rattle.noise.proofs.full.add_full.Tie as tie
 
 -- what the tests passed say
-set-valid : (c : tie.Else1) → validSet (c .before .before .args .s) ≡ true
+set-valid : (c : tie.Else1) → validSet (c .before .before .before .before .args .s) ≡ true
 set-valid c = passed (c .before .is-valid .ensures) (c .if1 .left)
 
-left-valid : (c : tie.Else2) → operators.validSet false (c .before .before .before .before .args .left) ≡ true
+left-valid : (c : tie.Else2) → operators.validSet false (c .before .before .before .before .before .before .args .left .terms) ≡ true
 left-valid c = passed (c .before .is-valid2 .ensures) (c .if2 .left)
 
-right-valid : (c : tie.Else3) → operators.validSet false (c .before .before .before .before .before .before .args .right) ≡ true
+right-valid : (c : tie.Else3) → operators.validSet false (c .before .before .before .before .before .before .before .before .args .right .terms) ≡ true
 right-valid c = passed (c .before .is-valid3 .ensures) (c .if3 .left)
 
-left-some : (c : tie.Else4) → eqb (c .before .before .before .before .before .before .before .before .args .left .count) 0 ≡ false
+left-some : (c : tie.Else4) → eqb (c .before .before .before .before .before .before .before .before .before .before .args .left .terms .count) 0 ≡ false
 left-some c = ne-eqb _ _ (c .if4 .left)
 
-right-some : (c : tie.Else5) → eqb (c .before .before .before .before .before .before .before .before .before .before .args .right .count) 0 ≡ false
+right-some : (c : tie.Else5) → eqb (c .before .before .before .before .before .before .before .before .before .before .before .before .args .right .terms .count) 0 ≡ false
 right-some c = ne-eqb _ _ (c .if5 .left)
 
-value-in-range : (c : tie.Else6) → inRange (c .before .before .before .before .before .before .before .before .before .before .before .before .args .value) ≡ true
+value-in-range : (c : tie.Else6) → inRange (c .before .before .before .before .before .before .before .before .before .before .before .before .before .before .args .value) ≡ true
 value-in-range c = passed (c .before .in-range .ensures) (c .if6 .left)
 
 is-valid-requires : tie.Need-is-valid-requires
@@ -104,9 +104,9 @@ returns-7 c =
     let p = q .before .before in
     let r = p .before .before in
     let l = r .before .before in
-    let a = l .before .before .before .before .args in
+    let a = l .before .before .before .before .before .before .args in
     rw (set-valid (l .before .before), left-valid l, right-valid r, left-some p, right-some q, value-in-range v)
-    (c .finished .ensures _ (c .before .add-rows .ensures) ∙ rows-end (a .s) (a .value) (operators.heldBy (a .left)) (operators.heldBy (a .right)))
+    (c .finished .ensures _ (c .before .add-rows .ensures) ∙ rows-end (a .s) (a .value) (operators.heldBy (a .left .terms)) (operators.heldBy (a .right .terms)))
 
 pub add-full-spec : {M : Type 1} → statement M
 add-full-spec =

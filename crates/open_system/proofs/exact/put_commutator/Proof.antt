@@ -3,7 +3,7 @@ use Prim.Native.Nat.{_+_}
 use mathlib.Core.Path.{_≡_}
 use native.Mathlib.Omega.{arith}
 use Rattle.rows.specs.ExactRows.{exactEntries}
-use Rattle.open_system.proofs.ExactWritingLaws.{read-parts, exact-commutator-put}
+use Rattle.open_system.proofs.ExactWritingLaws.{read-parts, parts-within, exact-commutator-put}
 use borrow.Author.Needs.{needs}
 use Rattle.open_system.proofs.exact.put_commutator.Statement.{statement}
 use Rattle.open_system.proofs.exact.put_commutator.Tie as tie
@@ -21,10 +21,10 @@ commutator-entries-requires : tie.Need-commutator-entries-requires
 commutator-entries-requires c κs = search needs
 
 scaled-halves-requires : tie.Need-scaled-halves-requires
-scaled-halves-requires c κs = search needs
+scaled-halves-requires c κs = let y = c .before .before .before .before in parts-within _ (read-parts _ (y .before .parts-of .ensures)) (read-parts _ (y .parts-of2 .ensures))
 
 scaled-halves-requires-2 : tie.Need-scaled-halves-requires-2
-scaled-halves-requires-2 c κs = search needs
+scaled-halves-requires-2 c κs = let y = c .before .before .before .before .before in parts-within _ (read-parts _ (y .before .parts-of .ensures)) (read-parts _ (y .parts-of2 .ensures))
 
 put-requires : tie.Need-put-requires
 put-requires c κs = search needs

@@ -3,7 +3,7 @@ use Prim.Native.Nat.{_+_}
 use mathlib.Core.Path.{_≡_}
 use native.Mathlib.Omega.{arith}
 use Rattle.rows.specs.ExactRows.{exactEntries}
-use Rattle.open_system.proofs.ExactWritingLaws.{read-parts, exact-noise-put}
+use Rattle.open_system.proofs.ExactWritingLaws.{read-parts, parts-within, exact-noise-put}
 use borrow.Author.Needs.{needs}
 use Rattle.open_system.proofs.exact.put_noise.Statement.{statement}
 use Rattle.open_system.proofs.exact.put_noise.Tie as tie
@@ -24,22 +24,22 @@ noise-entries-requires : tie.Need-noise-entries-requires
 noise-entries-requires c κs = search needs
 
 scaled-halves-requires : tie.Need-scaled-halves-requires
-scaled-halves-requires c κs = search needs
+scaled-halves-requires c κs = let y = c .before .before .before .before .before .before in parts-within _ (read-parts _ (y .before .parts-of .ensures)) (read-parts _ (y .parts-of2 .ensures))
 
 minus-halves-requires : tie.Need-minus-halves-requires
-minus-halves-requires c κs = search needs
+minus-halves-requires c κs = let y = c .before .before .before .before .before .before .before in parts-within _ (read-parts _ (y .before .parts-of .ensures)) (read-parts _ (y .parts-of2 .ensures))
 
 minus-halves-requires-2 : tie.Need-minus-halves-requires-2
-minus-halves-requires-2 c κs = search needs
+minus-halves-requires-2 c κs = let y = c .before .before .before .before .before .before .before .before in parts-within _ (read-parts _ (y .before .parts-of .ensures)) (read-parts _ (y .parts-of2 .ensures))
 
 put-requires : tie.Need-put-requires
 put-requires c κs = search needs
 
 add-next : tie.Need-add-next
-add-next c = search needs
+add-next c = omega (arith, c .before .before .before .before .before .before .before .before .before .before .before .before .before .before .before .before .pre)
 
 put-requires-2 : tie.Need-put-requires-2
-put-requires-2 c κs = search needs
+put-requires-2 c κs = omega (arith, c .before .before .before .before .before .before .before .before .before .before .before .before .before .before .before .before .before .before .before .pre)
 
 add-put : tie.Need-add-put
 add-put c = omega (arith, c .before .before .before .before .before .before .before .before .before .before .before .before .before .before .before .before .before .before .before .before .pre)

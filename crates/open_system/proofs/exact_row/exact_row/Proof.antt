@@ -25,7 +25,9 @@ returns-2 c =
     exact-noise-malformed (e .before .before .before .before .before .args .s) _ _ (passed (e .before .is-valid .ensures) (e .if1 .left)) (failed (c .before .is-valid2 .ensures) (c .if2 .taken))
 
 complex-terms-requires : tie.Need-complex-terms-requires
-complex-terms-requires c κs = search needs
+complex-terms-requires c κs =
+    let e = c .before .before in
+    passed (e .before .is-valid .ensures) (e .if1 .left)
 
 row-of-requires : tie.Need-row-of-requires
 row-of-requires c κs =

@@ -1,6 +1,5 @@
 -- Each refusal by the tests on the way; terms that fit go on.
 use mathlib.Core.Path.{sym, ap, _∙_}
-use native.Mathlib.Omega.{arith}
 use Rattle.refusal.specs.Refusals.{carried}
 use Rattle.rows.proofs.CallLaws.{pairs-size}
 use Rattle.open_system.proofs.AcceptedLaws.{accepted}
@@ -21,7 +20,7 @@ size-of-requires c κs = search needs
 returns-2 : tie.Need-returns-2
 returns-2 c =
     let few = c .before .before .if1 .left in
-    exact-range _ _ _ _ few (pairs-size _ (c .before .size-of .ensures (omega arith))) (c .if2 .taken)
+    exact-range _ _ _ _ few (pairs-size _ (c .before .size-of .ensures)) (c .if2 .taken)
 
 outside-site-requires : tie.Need-outside-site-requires
 outside-site-requires c κs = search needs
@@ -38,14 +37,14 @@ whole-row-requires c κs =
     let f = g .before in
     let few = f .before .if1 .left in
     let none = ap carried (sym (c .before .before .before .enum-told .given .1)) ∙ c .before .before .before .before .before .outside-site .ensures in
-    accepted _ (f .before .before .before .pre) few (pairs-size _ (f .size-of .ensures (omega arith))) (g .if2 .left) none
+    accepted _ (f .before .before .before .pre) few (pairs-size _ (f .size-of .ensures)) (g .if2 .left) none
 
 returns-3 : tie.Need-returns-3
 returns-3 c =
     let g = c .before .before .before .before in
     let few = g .before .before .if1 .left in
     let site = ap carried (sym (c .before .site .given .1)) ∙ c .before .before .before .outside-site .ensures in
-    exact-outside _ _ _ _ few (pairs-size _ (g .before .size-of .ensures (omega arith))) (g .if2 .left) site
+    exact-outside _ _ _ _ few (pairs-size _ (g .before .size-of .ensures)) (g .if2 .left) site
 
 same-length : tie.Need-same-length
 same-length c = search needs

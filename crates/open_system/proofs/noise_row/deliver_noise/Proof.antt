@@ -1,8 +1,11 @@
 -- What `deliver` answers of the contributions that `write_noise` wrote.
+use mathlib.Core.Path.{ap}
 use mathlib.Core.Bool.{true}
 use native.Mathlib.Omega.{arith}
 use borrow.Author.Needs.{needs}
-use Rattle.rows.proofs.CallLaws.{delivered}
+use Rattle.rows.specs.Numbers.{floats}
+use Rattle.rows.specs.Placing.{rowIn}
+use Rattle.rows.proofs.DeliveryLaws.{delivered}
 use Rattle.open_system.proofs.noise_row.deliver_noise.Statement.{statement}
 use Rattle.open_system.proofs.noise_row.deliver_noise.Tie as tie
 
@@ -26,7 +29,7 @@ returns c w given ok =
     let d = c .before .before .before .before .before .before in
     let n = d .before .before .before .before .before .before .before in
     let s = n .before .before .before .before .before .before .before in
-    delivered true (omega (arith, n .write-noise .ensures .0, s .pre)) (n .write-noise .ensures .1 (record { columns = search needs; reals = search needs; imaginaries = search needs }) w given ok) (d .deliver .ensures)
+    delivered {n = n .write-noise .result} (omega (arith, n .write-noise .ensures .0, s .pre)) (ap (rowIn floats true) (n .write-noise .ensures .1 (record { columns = search needs; reals = search needs; imaginaries = search needs }) w given ok)) (d .deliver .ensures)
 
 pub deliver-noise-spec : {M : Type 1} → statement M
 deliver-noise-spec =

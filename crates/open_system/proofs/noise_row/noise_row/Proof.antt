@@ -2,7 +2,6 @@
 use mathlib.Core.Path.{_≡_, refl, sym, ap, _∙_}
 use mathlib.Core.Logic.{⊎-elim}
 use mathlib.Core.List.{[]}
-use native.Mathlib.Omega.{arith}
 use borrow.Author.Tests.{not-true, not-false}
 use borrow.Author.Needs.{needs}
 use Rattle.refusal.specs.Refusals.{carried}
@@ -39,7 +38,7 @@ unfolding noiseRow
 returns-3 c =
     let f = c .before .before in
     let v = sym (pairs-judged _ (f .before .before .before .masked .ensures)) ∙ not-false _ (f .before .if1 .left) in
-    call-valid _ v refl (call-range _ _ _ _ _ (f .if2 .left) (pairs-size _ (c .before .size-of .ensures (omega (arith, f .if2 .left)))) (c .if3 .taken))
+    call-valid _ v refl (call-range _ _ _ _ _ (f .if2 .left) (pairs-size _ (c .before .size-of .ensures)) (c .if3 .taken))
 
 pairs-fit-requires : tie.Need-pairs-fit-requires
 pairs-fit-requires c κs =
@@ -60,7 +59,7 @@ returns-4 c =
     let f = g .before .before in
     let v = sym (pairs-judged _ (f .before .before .before .masked .ensures)) ∙ not-false _ (f .before .if1 .left) in
     let site = ap carried (sym (c .before .site .given .1)) ∙ c .before .before .before .of-noise .ensures in
-    call-valid _ v refl (call-outside _ _ _ _ _ (f .if2 .left) (pairs-size _ (g .before .size-of .ensures (omega (arith, f .if2 .left)))) (g .if3 .left) site)
+    call-valid _ v refl (call-outside _ _ _ _ _ (f .if2 .left) (pairs-size _ (g .before .size-of .ensures)) (g .if3 .left) site)
 
 enum-told : tie.Need-enum-told
 enum-told c = search needs
@@ -69,7 +68,7 @@ deliver-noise-requires : tie.Need-deliver-noise-requires
 deliver-noise-requires c κs =
     let f = c .before .before .before .before .before .before .before .before .before .before .before .before .before .before .before .before .before in
     let m = f .before .before .before .masked .ensures in
-    pairs-few _ m (sym (pairs-judged _ m) ∙ not-false _ (f .before .if1 .left))
+    (pairs-few _ m (sym (pairs-judged _ m) ∙ not-false _ (f .before .if1 .left)), f .if2 .left)
 
 same-length : tie.Need-same-length
 same-length c = search needs
@@ -88,10 +87,10 @@ returns-5 c =
     let m = f .before .before .before .masked .ensures in
     let v = sym (pairs-judged _ m) ∙ not-false _ (f .before .if1 .left) in
     let a = f .before .before .before .before .before .before .before .args in
-    let l = heldBy (a .s) in
+    let l = heldBy (a .s .set) in
     let p = pairs-given _ m v in
     let few = f .if2 .left in
-    let size = pairs-size _ (g .before .size-of .ensures (omega (arith, few))) in
+    let size = pairs-size _ (g .before .size-of .ensures) in
     let none : [] ≡ outside (a .spins) (itemsOf l) =
     ⊎-elim
     (λ w. ap carried (sym (w .3 .given .1)) ∙ w .1 .ensures)

@@ -1,8 +1,11 @@
 -- What `deliver` answers of the contributions that `write_commutator` wrote.
+use mathlib.Core.Path.{ap}
 use mathlib.Core.Bool.{false}
 use native.Mathlib.Omega.{arith}
 use borrow.Author.Needs.{needs}
-use Rattle.rows.proofs.CallLaws.{delivered}
+use Rattle.rows.specs.Numbers.{floats}
+use Rattle.rows.specs.Placing.{rowIn}
+use Rattle.rows.proofs.DeliveryLaws.{delivered}
 use Rattle.open_system.proofs.operator_row.deliver_commutator.Statement.{statement}
 use Rattle.open_system.proofs.operator_row.deliver_commutator.Tie as tie
 
@@ -26,7 +29,7 @@ returns c =
     let d = c .before .before .before .before .before .before in
     let w = d .before .before .before .before .before .before .before in
     let s = w .before .before .before .before .before .before .before in
-    delivered false (omega (arith, w .write-commutator .ensures .0)) (w .write-commutator .ensures .1 (record { columns = search needs; reals = search needs; imaginaries = search needs }) (s .pre)) (d .deliver .ensures)
+    delivered {n = w .write-commutator .result} (omega (arith, w .write-commutator .ensures .0)) (ap (rowIn floats false) (w .write-commutator .ensures .1 (record { columns = search needs; reals = search needs; imaginaries = search needs }) (s .pre))) (d .deliver .ensures)
 
 pub deliver-commutator-spec : {M : Type 1} → statement M
 deliver-commutator-spec =

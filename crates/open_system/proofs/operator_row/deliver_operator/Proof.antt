@@ -1,8 +1,11 @@
 -- What `deliver` answers of the contributions that `write_operator` wrote.
+use mathlib.Core.Path.{ap}
 use mathlib.Core.Bool.{true}
 use native.Mathlib.Omega.{arith}
 use borrow.Author.Needs.{needs}
-use Rattle.rows.proofs.CallLaws.{delivered}
+use Rattle.rows.specs.Numbers.{floats}
+use Rattle.rows.specs.Placing.{rowIn}
+use Rattle.rows.proofs.DeliveryLaws.{delivered}
 use Rattle.open_system.proofs.operator_row.deliver_operator.Statement.{statement}
 use Rattle.open_system.proofs.operator_row.deliver_operator.Tie as tie
 
@@ -26,7 +29,7 @@ returns c =
     let d = c .before .before .before .before .before .before in
     let w = d .before .before .before .before .before .before .before in
     let s = w .before .before .before .before .before .before .before in
-    delivered true (omega (arith, w .write-operator .ensures .0)) (w .write-operator .ensures .1 (record { columns = search needs; reals = search needs; imaginaries = search needs }) (s .pre)) (d .deliver .ensures)
+    delivered {n = w .write-operator .result} (omega (arith, w .write-operator .ensures .0)) (ap (rowIn floats true) (w .write-operator .ensures .1 (record { columns = search needs; reals = search needs; imaginaries = search needs }) (s .pre))) (d .deliver .ensures)
 
 pub deliver-operator-spec : {M : Type 1} → statement M
 deliver-operator-spec =

@@ -18,7 +18,7 @@ unfolding hamiltonianRow
 returns c = call-malformed _ _ _ _ _ (sym (c .before .is-valid .ensures) ∙ not-true _ (c .if1 .taken))
 
 complex-terms-requires : tie.Need-complex-terms-requires
-complex-terms-requires c κs = search needs
+complex-terms-requires c κs = sym (c .before .is-valid .ensures) ∙ not-false _ (c .if1 .left)
 
 operator-row-of-requires : tie.Need-operator-row-of-requires
 operator-row-of-requires c κs =

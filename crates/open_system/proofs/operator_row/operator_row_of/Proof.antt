@@ -1,6 +1,5 @@
 -- Each refusal by the tests on the way; terms that fit are delivered.
 use mathlib.Core.Path.{sym, ap, _∙_}
-use native.Mathlib.Omega.{arith}
 use borrow.Author.Needs.{needs}
 use Rattle.refusal.specs.Refusals.{carried}
 use Rattle.rows.proofs.CallLaws.{call-spins, call-range, call-outside, call-row}
@@ -20,7 +19,7 @@ returns-2 : tie.Need-returns-2
 unfolding operatorRowOf
 returns-2 c =
     let few = c .before .before .if1 .left in
-    call-range _ _ _ _ _ few (c .before .size-of .ensures (omega arith)) (c .if2 .taken)
+    call-range _ _ _ _ _ few (c .before .size-of .ensures) (c .if2 .taken)
 
 of-operator-requires : tie.Need-of-operator-requires
 of-operator-requires c κs = search needs
@@ -37,7 +36,7 @@ deliver-operator-requires c κs =
     let f = g .before in
     let few = f .before .if1 .left in
     let none = ap carried (sym (c .before .before .before .enum-told .given .1)) ∙ c .before .before .before .before .before .of-operator .ensures in
-    accepted _ (f .before .before .before .before .before .pre) few (f .size-of .ensures (omega arith)) (g .if2 .left) none
+    accepted _ (f .before .before .before .before .before .pre) few (f .size-of .ensures) (g .if2 .left) none
 
 returns-3 : tie.Need-returns-3
 unfolding operatorRowOf
@@ -45,7 +44,7 @@ returns-3 c =
     let g = c .before .before .before .before in
     let few = g .before .before .if1 .left in
     let site = ap carried (sym (c .before .site .given .1)) ∙ c .before .before .before .of-operator .ensures in
-    call-outside _ _ _ _ _ few (g .before .size-of .ensures (omega arith)) (g .if2 .left) site
+    call-outside _ _ _ _ _ few (g .before .size-of .ensures) (g .if2 .left) site
 
 same-length : tie.Need-same-length
 same-length c = search needs
@@ -62,7 +61,7 @@ returns-4 c =
     let g = c .before .before .before .before .before .before .before .before .before .before .before .before .before in
     let few = g .before .before .if1 .left in
     let none = ap carried (sym (c .before .before .before .before .before .before .before .before .before .before .enum-told .given .1)) ∙ c .before .before .before .before .before .before .before .before .before .before .before .before .of-operator .ensures in
-    call-row _ _ _ _ _ few (g .before .size-of .ensures (omega arith)) (g .if2 .left) none (c .before .before .before .before .before .before .deliver-operator .ensures)
+    call-row _ _ _ _ _ few (g .before .size-of .ensures) (g .if2 .left) none (c .before .before .before .before .before .before .deliver-operator .ensures)
 
 pub operator-row-of-spec : {M : Type 1} → statement M
 operator-row-of-spec =

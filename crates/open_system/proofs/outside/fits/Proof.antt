@@ -37,7 +37,7 @@ size-of-requires c κs = search needs
 returns : tie.Need-returns Inv-loop μ-loop
 returns c e ps v long given =
     let l = c .before .before .before in
-    joined-inside _ (l .loop .inv) (c .before .before .loop-test .left) (c .before .size-of .ensures (omega (arith, l .before .pre .1))) (c .if1 .taken) (ltb-true _ _ e) ps v long given
+    joined-inside _ (l .loop .inv) (c .before .before .loop-test .left) (c .before .size-of .ensures) (c .if1 .taken) (ltb-true _ _ e) ps v long given
 
 returns-2 : tie.Need-returns-2 Inv-loop μ-loop
 returns-2 c e ps v long given = absurd (omega (arith, c .if1 .left, ltb-true (c .before .before .before .loop .all % 2 ^ 32) (c .before .size-of .result) e))

@@ -6,9 +6,9 @@ use mathlib.Core.Logic.{⊎-elim}
 use native.Mathlib.Omega.{arith}
 use borrow.Author.Needs.{needs}
 use lib.ListN.{getD}
-use Rattle.letters.specs.Gauss.{_⊕_}
 use Rattle.rows.specs.Buffers.{valueIn}
-use Rattle.rows.specs.ExactRows.{whole, wholeParts, isWholeZero, within, largestContribution}
+use Rattle.rows.specs.Numbers.{halves}
+use Rattle.rows.specs.ExactRows.{whole, wholeParts, within, largestContribution}
 use Rattle.rows.proofs.RunLaws.{places-at}
 use Rattle.rows.proofs.ArrayLaws.{AddingIn, adding-none, adding-first, adding-same, adding-next, adding-done}
 use Rattle.rows.proofs.ExactLaws.{Bounded, bounded-one, bounded-more, re-fits, im-fits, all-take}
@@ -17,7 +17,7 @@ use Rattle.rows.proofs.exact.add_up.Tie as tie
 
 abbrev Inv-loop : tie.InvT-loop
 Inv-loop columns re im places n out-columns₀ out-re₀ out-im₀ first column₀ value₀ count₀ k₀ out-columns out-re out-im column value count k =
-    AddingIn wholeParts _⊕_ isWholeZero columns re im places n false out-columns out-re out-im column (whole (value .re) (value .im)) count k
+    AddingIn wholeParts (halves .sum) (halves .isZero) columns re im places n false out-columns out-re out-im column (whole (value .re) (value .im)) count k
     × Bounded k (whole (value .re) (value .im))
 
 abbrev μ-loop : tie.MeasureT-loop
@@ -41,7 +41,7 @@ next-small c =
 returns : tie.Need-returns Inv-loop μ-loop
 returns c =
     let a = c .before .args in
-    (omega arith, adding-none wholeParts _⊕_ isWholeZero (a .columns .now) (a .re .now) (a .im .now) _ _ _ _ _ _ (c .if1 .taken), c .before .pre .3)
+    (omega arith, adding-none wholeParts (halves .sum) (halves .isZero) (a .columns .now) (a .re .now) (a .im .now) _ _ _ _ _ _ (c .if1 .taken), c .before .pre .3)
 
 element-copy-out-first : tie.Need-element-copy-out-first Inv-loop μ-loop
 element-copy-out-first c = search needs

@@ -6,7 +6,8 @@ use native.Mathlib.Omega.{arith}
 use borrow.Author.Needs.{needs}
 use mir.Syntax.{w64}
 use mir.Val.{SFits}
-use Rattle.rows.specs.ExactRows.{whole, wholeParts, isWholeZero}
+use Rattle.rows.specs.Numbers.{halves}
+use Rattle.rows.specs.ExactRows.{whole, wholeParts}
 use Rattle.rows.proofs.ArrayLaws.{kept-zero, kept-other, entriesIn-stored, long-stored}
 use Rattle.rows.proofs.HalfLaws.{read}
 use Rattle.rows.proofs.ExactLaws.{wholes-faithful}
@@ -20,7 +21,7 @@ returns : tie.Need-returns
 returns c =
     let s = c .before .before in
     let v = s .args .value in
-    (omega arith, rw (kept-zero isWholeZero (s .args .column) (whole (v .re) (v .im)) false refl (sym (c .before .is-zero .ensures) ∙ c .if1 .taken)) (sym (append-nil _)), s .pre .1)
+    (omega arith, rw (kept-zero (halves .isZero) (s .args .column) (whole (v .re) (v .im)) false refl (sym (c .before .is-zero .ensures) ∙ c .if1 .taken)) (sym (append-nil _)), s .pre .1)
 
 mul-out-columns : tie.Need-mul-out-columns
 mul-out-columns c = search needs
@@ -50,7 +51,7 @@ returns-2 c =
     let v = s .args .value in
     let x : SFits w64 (v .re) = search needs in
     let y : SFits w64 (v .im) = search needs in
-    let one = kept-other isWholeZero (s .args .column) (whole (v .re) (v .im)) false (sym (t .before .is-zero .ensures) ∙ t .if1 .left) in (
+    let one = kept-other (halves .isZero) (s .args .column) (whole (v .re) (v .im)) false (sym (t .before .is-zero .ensures) ∙ t .if1 .left) in (
       omega arith,
       rw (one, read (v .re) (x .sfits), read (v .im) (y .sfits)) (entriesIn-stored wholeParts wholes-faithful _ _ _ _ (s .args .column) (whole (v .re) (v .im)) (s .pre .1) (s .pre .0)),
       long-stored _ _ _ _ _ _ _ (s .pre .1),

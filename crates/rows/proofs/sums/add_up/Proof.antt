@@ -5,7 +5,7 @@ use mathlib.Core.Logic.{⊎-elim}
 use native.Mathlib.Omega.{arith}
 use borrow.Author.Needs.{needs}
 use lib.ListN.{getD}
-use Rattle.complex.specs.Complex.{sumOf, isZero}
+use Rattle.rows.specs.Numbers.{floats}
 use Rattle.rows.specs.Buffers.{floatParts}
 use Rattle.rows.proofs.RunLaws.{places-at}
 use Rattle.rows.proofs.ArrayLaws.{AddingIn, adding-none, adding-first, adding-same, adding-next, adding-done}
@@ -14,7 +14,7 @@ use Rattle.rows.proofs.sums.add_up.Tie as tie
 
 abbrev Inv-loop : tie.InvT-loop
 Inv-loop columns re im places n zeros out-columns₀ out-re₀ out-im₀ first column₀ value₀ count₀ k₀ out-columns out-re out-im column value count k =
-    AddingIn floatParts sumOf isZero columns re im places n zeros out-columns out-re out-im column value count k
+    AddingIn floatParts (floats .sum) (floats .isZero) columns re im places n zeros out-columns out-re out-im column value count k
 
 abbrev μ-loop : tie.MeasureT-loop
 μ-loop columns re im places n zeros out-columns₀ out-re₀ out-im₀ first column₀ value₀ count₀ k₀ out-columns out-re out-im column value count k =
@@ -26,7 +26,7 @@ below c i = places-at (c .args .places .now) i (c .pre .1)
 returns : tie.Need-returns Inv-loop μ-loop
 returns c =
     let a = c .before .args in
-    (omega arith, adding-none floatParts sumOf isZero (a .columns .now) (a .re .now) (a .im .now) _ _ _ _ _ _ (c .if1 .taken), c .before .pre .2)
+    (omega arith, adding-none floatParts (floats .sum) (floats .isZero) (a .columns .now) (a .re .now) (a .im .now) _ _ _ _ _ _ (c .if1 .taken), c .before .pre .2)
 
 element-copy-out-first : tie.Need-element-copy-out-first Inv-loop μ-loop
 element-copy-out-first c = search needs

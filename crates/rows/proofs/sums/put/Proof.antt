@@ -5,8 +5,8 @@ use mathlib.Core.Logic.{⊎-elim}
 use native.Mathlib.Omega.{arith}
 use borrow.Author.Needs.{needs}
 use borrow.Author.Tests.{not-true, not-false}
-use Rattle.complex.specs.Complex.{isZero}
-use Rattle.rows.specs.Buffers.{kept}
+use Rattle.rows.specs.Numbers.{floats}
+use Rattle.rows.specs.Placing.{keptBy}
 use Rattle.rows.proofs.ArrayLaws.{kept-zero, kept-other, kept-with, entries-stored, long-stored}
 use Rattle.rows.proofs.sums.put.Statement.{statement}
 use Rattle.rows.proofs.sums.put.Tie as tie
@@ -17,7 +17,7 @@ is-zero-requires c κs = search needs
 returns : tie.Need-returns
 returns c =
     let s = c .before .before .before in
-    (omega arith, rw (kept-zero isZero (s .args .column) (s .args .value) (s .args .zeros) (not-true _ (c .before .before .if1 .taken)) (sym (c .before .is-zero .ensures) ∙ c .if2 .taken)) (sym (append-nil _)), s .pre .1)
+    (omega arith, rw (kept-zero (floats .isZero) (s .args .column) (s .args .value) (s .args .zeros) (not-true _ (c .before .before .if1 .taken)) (sym (c .before .is-zero .ensures) ∙ c .if2 .taken)) (sym (append-nil _)), s .pre .1)
 
 mul-out-columns : tie.Need-mul-out-columns
 mul-out-columns c = search needs
@@ -44,10 +44,10 @@ returns-2 : tie.Need-returns-2
 returns-2 c =
     let s = c .before in
     let a = s .args in
-    let one : kept (a .zeros) ((a .column, a .value) ∷ []) ≡ (a .column, a .value) ∷ [] =
+    let one : keptBy (floats .isZero) (a .zeros) ((a .column, a .value) ∷ []) ≡ (a .column, a .value) ∷ [] =
     ⊎-elim
-    (λ w. kept-other isZero (a .column) (a .value) (a .zeros) (sym (w .1 .ensures) ∙ w .2 .left))
-    (λ w. kept-with isZero (a .column) (a .value) (a .zeros) (not-false _ (w .left)))
+    (λ w. kept-other (floats .isZero) (a .column) (a .value) (a .zeros) (sym (w .1 .ensures) ∙ w .2 .left))
+    (λ w. kept-with (floats .isZero) (a .column) (a .value) (a .zeros) (not-false _ (w .left)))
     (c .if1 .came) in
     (omega arith, rw one (entries-stored _ _ _ _ (a .column) (a .value) (s .pre .1) (s .pre .0)), long-stored _ _ _ _ _ _ _ (s .pre .1))
 
