@@ -1,6 +1,7 @@
 -- What the exact row call delivers, of a system made or handed in: the list that condition 3 compares, exactly where no number refuses the call.
 -- Assumes nothing.
 use Prim.Native.Nat.{ℕ}
+use native.Mathlib.Omega.{arith}
 use mathlib.Core.Path.{_≡_, refl, sym, ap, ap₂, subst, _∙_}
 use mathlib.Core.Bool.{Bool, true, _&&_, and-assoc}
 use mathlib.Core.List.{List, [], _∷_, _++_, map}
@@ -131,7 +132,7 @@ module _ (calls : List Call) (n r : ℕ) where
         (record {
           hamiltonian = held .hamiltonian-valid;
           noise = held .noise-valid;
-          few = p .0 .spins;
+          few = omega (arith, p .0 .spins);
           inside = none-outside n (products s) (sites-tested ∙ and-true (p .0 .hamiltonian-sites) (p .0 .noise-sites));
           whole = parts-tested ∙ and-true (p .0 .hamiltonian-whole) (p .0 .noise-whole);
         }) (p .1)
@@ -141,7 +142,7 @@ module _ (calls : List Call) (n r : ℕ) where
         let sites = sym sites-tested ∙ all-inside n (products s) (t .0 .inside) in
         let parts = sym parts-tested ∙ t .0 .whole in (
           record {
-            spins = t .0 .few;
+            spins = omega (arith, t .0 .few);
             hamiltonian-sites = and-left (sitesBelow n (m .hamiltonian)) (pairSitesBelow n (m .noise)) sites;
             noise-sites = and-right (sitesBelow n (m .hamiltonian)) (pairSitesBelow n (m .noise)) sites;
             hamiltonian-whole = and-left (partsWhole (m .hamiltonian)) (partsWhole (m .noise)) parts;
