@@ -28,7 +28,7 @@ for file in "$here"/timed/proofs/*.antt.txt; do
   mkdir -p "$timed/proofs/$name"
   cp "$file" "$timed/proofs/$name/Proof.antt"
 done
-echo 'timed: open_system noise operators rows products letters complex refusal' >> "$proved/crates.txt"
+echo "timed: spins $(sed -n 's/^spins: //p' "$root/crates.txt")" >> "$proved/crates.txt"
 (cd "$proved" && rt staticlib timed)
 
 # both in one program

@@ -1,18 +1,11 @@
 // Our answers beside those written at the end of a record.
+use crate::entries::TermsAnswer;
 use crate::forms::noise_terms;
 use crate::forms::product;
 use crate::forms::terms;
 use crate::reader::byte;
 use crate::reader::float;
 use crate::reader::number;
-use crate::row_form::Row;
-use crate::row_form::read_row;
-use crate::same::same_hamiltonian;
-use crate::same::same_noise;
-use crate::same::same_number;
-use crate::same::same_product;
-use crate::same::same_row;
-use crate::same::same_terms;
 use crate::verdict::Verdict;
 use crate::verdict::agreed;
 use crate::verdict::is_refused;
@@ -20,21 +13,23 @@ use crate::verdict::occupied_at;
 use crate::verdict::refused_if;
 use crate::verdict::settled;
 use crate::verdict::worse;
-use complex::Complex;
-use noise::noise_set::NoiseSet;
-use operators::pauli_hamiltonian::PauliHamiltonian;
-use operators::term_set::TermSet;
-use operators::term_set::TermSetAnswer;
-use products::items::Compared;
-use products::items::Got;
-use products::items::Items;
-use refusal::Outcome;
+use observations::records::same_items;
+use observations::records::same_number;
+use observations::records::same_pairs;
+use observations::records::same_terms;
+use spins::Compared;
+use spins::Complex;
+use spins::Got;
+use spins::Items;
+use spins::Outcome;
+use spins::PauliLindbladNoiseOperator;
+use spins::TermSet;
 
 // A product.
 pub(crate) fn product_told(s: &[u8], at: usize, outcome: Outcome, items: Items) -> Verdict {
     let p = product(s, at);
     let told = p.items;
-    let v = agreed(same_product(items, told));
+    let v = agreed(same_items(items, told));
     settled(s, p.next, worse(refused_if(is_refused(outcome)), v))
 }
 
@@ -51,8 +46,8 @@ pub(crate) fn factor_told(
     let told = p.items;
     let value = z.value;
     let v = worse(
-        agreed(same_product(items, told)),
-        agreed(same_number(factor, value)),
+        agreed(same_items(items, told)),
+        agreed(same_number(false, factor, value)),
     );
     settled(s, z.next, worse(refused_if(is_refused(outcome)), v))
 }
@@ -62,7 +57,7 @@ pub(crate) fn sign_told(s: &[u8], at: usize, outcome: Outcome, items: Items, sig
     let p = product(s, at);
     let x = float(s, p.next);
     let told = p.items;
-    let v = worse(agreed(same_product(items, told)), agreed(sign == x.value));
+    let v = worse(agreed(same_items(items, told)), agreed(sign == x.value));
     settled(s, x.next, worse(refused_if(is_refused(outcome)), v))
 }
 
@@ -105,43 +100,31 @@ pub(crate) fn order_told(s: &[u8], at: usize, order: Compared) -> Verdict {
 // The terms of an operator, after what came before.
 pub(crate) fn terms_told(s: &[u8], at: usize, before: Verdict, set: TermSet) -> Verdict {
     let t = terms(s, at);
-    let list = t.list;
-    settled(s, t.next, worse(before, agreed(same_terms(set, list))))
+    settled(
+        s,
+        t.next,
+        worse(before, agreed(same_terms(false, set, t.list))),
+    )
 }
 
 // The terms that a call on arguments made.
-pub(crate) fn answer_told(s: &[u8], at: usize, refused: bool, a: TermSetAnswer) -> Verdict {
+pub(crate) fn answer_told(s: &[u8], at: usize, refused: bool, a: TermsAnswer) -> Verdict {
     let outcome = a.outcome;
     let set = a.set;
     terms_told(s, at, refused_if(refused | is_refused(outcome)), set)
 }
 
-// The terms of a Hamiltonian.
-pub(crate) fn hamiltonian_told(
+// The pairs of a noise operator.
+pub(crate) fn noise_told(
     s: &[u8],
     at: usize,
     before: Verdict,
-    set: PauliHamiltonian,
+    noise: PauliLindbladNoiseOperator,
 ) -> Verdict {
-    let t = terms(s, at);
-    let list = t.list;
+    let t = noise_terms(s, at);
     settled(
         s,
         t.next,
-        worse(before, agreed(same_hamiltonian(set, list))),
+        worse(before, agreed(same_pairs(false, noise.set, t.list))),
     )
-}
-
-// The terms of a noise set.
-pub(crate) fn noise_told(s: &[u8], at: usize, before: Verdict, set: NoiseSet) -> Verdict {
-    let t = noise_terms(s, at);
-    let list = t.list;
-    settled(s, t.next, worse(before, agreed(same_noise(set, list))))
-}
-
-// A row.
-pub(crate) fn row_told(s: &[u8], at: usize, before: Verdict, row: Row) -> Verdict {
-    let r = read_row(s, at);
-    let told = r.row;
-    settled(s, r.next, worse(before, agreed(same_row(row, told))))
 }

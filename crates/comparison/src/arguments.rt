@@ -6,16 +6,16 @@ use crate::forms::terms;
 use crate::reader::PAST;
 use crate::reader::number;
 use crate::verdict::is_refused;
-use complex::Complex;
 use letters::Kind;
-use noise::noise_set::NoiseSet;
-use noise::pauli_noise_operator::PauliLindbladNoiseOperator;
-use operators::pauli_hamiltonian::PauliHamiltonian;
-use operators::pauli_operator::PauliOperator;
-use operators::term_set::SetAnswer;
-use operators::term_set::TermSet;
-use products::decoherence_product::DecoherenceProduct;
-use products::pauli_product::PauliProduct;
+use spins::Complex;
+use spins::DecoherenceProduct;
+use spins::NoiseSet;
+use spins::PauliHamiltonian;
+use spins::PauliLindbladNoiseOperator;
+use spins::PauliOperator;
+use spins::PauliProduct;
+use spins::SetAnswer;
+use spins::TermSet;
 
 // An operator, and whether it was refused on the way.
 pub(crate) struct BuiltOperator {
@@ -31,7 +31,7 @@ pub(crate) struct BuiltHamiltonian {
 }
 
 pub(crate) struct BuiltNoise {
-    pub set: NoiseSet,
+    pub operator: PauliLindbladNoiseOperator,
     pub refused: bool,
     pub next: usize,
 }
@@ -46,7 +46,8 @@ fn set_refused(a: SetAnswer) -> bool {
 
 fn built(kind: Kind, list: TermSet, next: usize) -> BuiltOperator {
     let n = list.count;
-    let mut set = operators::term_set::empty_set();
+    let none = PauliOperator::new();
+    let mut set = none.terms;
     let mut refused = false;
     let mut i = 0usize;
     while i < 64 && i < n {
@@ -116,9 +117,8 @@ fn built_noise(list: NoiseSet, next: usize) -> BuiltNoise {
         refused = refused | set_refused(answer);
         i += 1;
     }
-    let set = operator.set;
     BuiltNoise {
-        set: set,
+        operator: operator,
         refused: refused,
         next: next,
     }
@@ -136,7 +136,7 @@ pub(crate) fn hamiltonian(s: &[u8], at: usize) -> BuiltHamiltonian {
     built_hamiltonian(list, t.next)
 }
 
-pub(crate) fn noise_set(s: &[u8], at: usize) -> BuiltNoise {
+pub(crate) fn noise_operator(s: &[u8], at: usize) -> BuiltNoise {
     let t = noise_terms(s, at);
     let list = t.list;
     built_noise(list, t.next)

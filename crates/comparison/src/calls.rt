@@ -16,10 +16,11 @@ use crate::replies::set_compared;
 use crate::verdict::Verdict;
 use crate::verdict::refused_if;
 use crate::verdict::worse;
-use complex::Complex;
 use letters::Kind;
-use operators::term_set::TermSet;
-use products::items::Items;
+use spins::Complex;
+use spins::Items;
+use spins::PauliOperator;
+use spins::TermSet;
 
 // An operator after calls on it.
 struct TermCalls {
@@ -102,7 +103,8 @@ fn term_calls(kind: Kind, s: &[u8], at: usize, start: TermSet) -> TermCalls {
 }
 
 fn on_operator(kind: Kind, s: &[u8], at: usize) -> Verdict {
-    let c = term_calls(kind, s, at, operators::term_set::empty_set());
+    let none = PauliOperator::new();
+    let c = term_calls(kind, s, at, none.terms);
     let set = c.set;
     let verdict = c.verdict;
     terms_told(s, c.next, verdict, set)

@@ -5,11 +5,14 @@ use crate::reader::byte;
 use crate::reader::number;
 use crate::reader::wide;
 use crate::reader::word;
-use noise::noise_set::NoiseSet;
-use noise::noise_set::NoiseTerm;
-use operators::term_set::Term;
-use operators::term_set::TermSet;
-use products::items::Items;
+use spins::Items;
+use spins::NoiseSet;
+use spins::NoiseTerm;
+use spins::PauliLindbladNoiseOperator;
+use spins::PauliOperator;
+use spins::PauliProduct;
+use spins::Term;
+use spins::TermSet;
 
 struct ReadItem {
     pub site: u8,
@@ -89,7 +92,8 @@ fn item(s: &[u8], at: usize, lowest: u8) -> ReadItem
 
 // A count of at most 31 items with ascending sites.
 pub(crate) fn product(s: &[u8], at: usize) -> ReadProduct {
-    let mut items = products::items::empty();
+    let none = PauliProduct::new();
+    let mut items = none.items;
     let count = byte(s, at);
     let n = wide(count.value) as usize;
     if 31 < n {
@@ -135,7 +139,8 @@ pub(crate) fn targets(s: &[u8], at: usize) -> ReadTargets {
 
 // A count of at most 64 terms.
 pub(crate) fn terms(s: &[u8], at: usize) -> ReadTerms {
-    let mut list = operators::term_set::empty_set();
+    let none = PauliOperator::new();
+    let mut list = none.terms;
     let count = byte(s, at);
     let n = wide(count.value) as usize;
     if 64 < n {
@@ -167,7 +172,8 @@ pub(crate) fn terms(s: &[u8], at: usize) -> ReadTerms {
 
 // A count of at most 64 noise terms.
 pub(crate) fn noise_terms(s: &[u8], at: usize) -> ReadNoise {
-    let mut list = noise::noise_set::empty_set();
+    let none = PauliLindbladNoiseOperator::new();
+    let mut list = none.set;
     let count = byte(s, at);
     let n = wide(count.value) as usize;
     if 64 < n {

@@ -1,5 +1,5 @@
 // Calls on a Hamiltonian, opcode 18: a verb, a key, a number and the Rust's reply each. The second part of a number is zero.
-use crate::answers::hamiltonian_told;
+use crate::answers::terms_told;
 use crate::forms::product;
 use crate::reader::PAST;
 use crate::reader::byte;
@@ -11,10 +11,11 @@ use crate::replies::reply;
 use crate::replies::set_compared;
 use crate::verdict::Verdict;
 use crate::verdict::worse;
-use complex::Complex;
-use operators::pauli_hamiltonian::PauliHamiltonian;
-use products::items::Items;
-use products::pauli_product::PauliProduct;
+use observations::records::complex_terms;
+use spins::Complex;
+use spins::Items;
+use spins::PauliHamiltonian;
+use spins::PauliProduct;
 
 // A Hamiltonian after calls on it.
 pub(crate) struct HamiltonianCalls {
@@ -103,7 +104,6 @@ fn hamiltonian_calls(s: &[u8], at: usize) -> HamiltonianCalls {
 
 pub(crate) fn compared(s: &[u8], at: usize) -> Verdict {
     let c = hamiltonian_calls(s, at);
-    let set = c.set;
     let verdict = c.verdict;
-    hamiltonian_told(s, c.next, verdict, set)
+    terms_told(s, c.next, verdict, complex_terms(c.set))
 }

@@ -1,5 +1,4 @@
 // A list of calls on a Hamiltonian and a noise set, then their open system's row: opcode 33.
-use crate::answers::row_told;
 use crate::arguments::operator;
 use crate::forms::noise_terms;
 use crate::forms::place;
@@ -12,29 +11,29 @@ use crate::reader::byte;
 use crate::reader::number;
 use crate::replies::done_compared;
 use crate::replies::reply;
-use crate::row_calls::open_row;
-use crate::same::same_hamiltonian;
-use crate::same::same_noise;
+use crate::row_answers::open_row_told;
 use crate::verdict::Verdict;
 use crate::verdict::agreed;
 use crate::verdict::refused_if;
 use crate::verdict::worse;
 use letters::Kind;
-use noise::noise_set::NoiseSet;
-use noise::pauli_noise_operator::PauliLindbladNoiseOperator;
-use operators::decoherence_operator::DecoherenceOperator;
-use operators::pauli_hamiltonian::PauliHamiltonian;
+use observations::records::complex_terms;
+use observations::records::same_pairs;
+use observations::records::same_terms;
+use spins::DecoherenceOperator;
+use spins::PauliHamiltonian;
+use spins::PauliLindbladNoiseOperator;
 
 // Both sets after calls.
 struct ListCalls {
     pub system: PauliHamiltonian,
-    pub noise: NoiseSet,
+    pub noise: PauliLindbladNoiseOperator,
     pub verdict: Verdict,
     pub next: usize,
 }
 
 // `add_noise_from_full_operators`.
-fn full_call(s: &[u8], at: usize, set: NoiseSet) -> NoiseCalls {
+fn full_call(s: &[u8], at: usize, noise: PauliLindbladNoiseOperator) -> NoiseCalls {
     let l = operator(Kind::Decoherence, s, at);
     let r = operator(Kind::Decoherence, s, l.next);
     let z = number(s, r.next);
@@ -42,22 +41,21 @@ fn full_call(s: &[u8], at: usize, set: NoiseSet) -> NoiseCalls {
     let left = l.set;
     let right = r.set;
     let value = z.value;
-    let a = PauliLindbladNoiseOperator { set: set }.add_noise_from_full_operators(
+    let a = noise.add_noise_from_full_operators(
         DecoherenceOperator { terms: left },
         DecoherenceOperator { terms: right },
         value,
     );
     let outcome = a.outcome;
-    let operator = a.operator;
-    let after = operator.set;
+    let after = a.operator;
     NoiseCalls {
-        set: after,
+        operator: after,
         verdict: worse(refused_if(l.refused | r.refused), done_compared(outcome, t)),
         next: t.next,
     }
 }
 
-fn on_system(s: &[u8], at: usize, h: PauliHamiltonian, n: NoiseSet) -> ListCalls {
+fn on_system(s: &[u8], at: usize, h: PauliHamiltonian, n: PauliLindbladNoiseOperator) -> ListCalls {
     let c = hamiltonian_call(s, at, h);
     let after = c.set;
     let verdict = c.verdict;
@@ -70,7 +68,7 @@ fn on_system(s: &[u8], at: usize, h: PauliHamiltonian, n: NoiseSet) -> ListCalls
 }
 
 fn on_noise(h: PauliHamiltonian, c: NoiseCalls) -> ListCalls {
-    let after = c.set;
+    let after = c.operator;
     let verdict = c.verdict;
     ListCalls {
         system: h,
@@ -86,7 +84,7 @@ fn verb_at(s: &[u8], at: usize) -> usize {
     if verb.value < 2 { at } else { PAST }
 }
 
-fn list_call(s: &[u8], at: usize, h: PauliHamiltonian, n: NoiseSet) -> ListCalls {
+fn list_call(s: &[u8], at: usize, h: PauliHamiltonian, n: PauliLindbladNoiseOperator) -> ListCalls {
     let which = byte(s, at);
     let w = which.value;
     match w {
@@ -106,7 +104,7 @@ fn list_calls(s: &[u8], at: usize) -> ListCalls {
     let count = byte(s, at);
     let n = count.value;
     let mut system = PauliHamiltonian::new();
-    let mut noise = noise::noise_set::empty_set();
+    let mut noise = PauliLindbladNoiseOperator::new();
     let mut verdict = Verdict::Same;
     let mut next = count.next;
     let mut i: u8 = 0;
@@ -136,15 +134,9 @@ pub(crate) fn compared(s: &[u8], at: usize) -> Verdict {
     let m = noise_terms(s, t.next);
     let h = c.system;
     let n = c.noise;
-    let told_h = t.list;
-    let told_n = m.list;
     let calls = c.verdict;
-    let sets = worse(
-        agreed(same_hamiltonian(h, told_h)),
-        agreed(same_noise(n, told_n)),
+    let sets = agreed(
+        same_terms(false, complex_terms(h), t.list) & same_pairs(false, n.set, m.list),
     );
-    let d = open_row(h, n, p.spins, p.row);
-    let row = d.row;
-    let before = worse(worse(calls, sets), refused_if(d.refused));
-    row_told(s, m.next, before, row)
+    open_row_told(h, n, p.spins, p.row, s, m.next, worse(calls, sets))
 }

@@ -2,7 +2,6 @@
 mod answers;
 mod arguments;
 mod calls;
-mod decoherences;
 mod entries;
 mod forms;
 mod hamiltonian_calls;
@@ -10,15 +9,12 @@ mod lists;
 mod names;
 mod noise_calls;
 mod operator_answers;
-mod paulis;
+mod product_answers;
 mod reader;
 mod records;
 mod replies;
 mod report;
 mod row_answers;
-mod row_calls;
-mod row_form;
-mod same;
 mod single_letters;
 mod verdict;
 

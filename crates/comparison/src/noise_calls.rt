@@ -1,6 +1,6 @@
 // Records on noise sets, opcodes 20 and 39.
 use crate::answers::noise_told;
-use crate::arguments::noise_set;
+use crate::arguments::noise_operator;
 use crate::forms::product;
 use crate::forms::targets;
 use crate::reader::PAST;
@@ -16,47 +16,56 @@ use crate::verdict::Verdict;
 use crate::verdict::is_refused;
 use crate::verdict::refused_if;
 use crate::verdict::worse;
-use complex::Complex;
-use noise::noise_set::NoiseSet;
-use noise::pauli_noise_operator::PauliLindbladNoiseOperator;
-use operators::term_set::GetAnswer;
-use products::decoherence_product::DecoherenceProduct;
-use products::items::Items;
+use spins::Complex;
+use spins::DecoherenceProduct;
+use spins::GetAnswer;
+use spins::Items;
+use spins::PauliLindbladNoiseOperator;
 
 // A noise set after calls on it.
 pub(crate) struct NoiseCalls {
-    pub set: NoiseSet,
+    pub operator: PauliLindbladNoiseOperator,
     pub verdict: Verdict,
     pub next: usize,
 }
 
-fn set_pair(set: NoiseSet, left: Items, right: Items, value: Complex, r: ReadReply) -> NoiseCalls {
-    let a = PauliLindbladNoiseOperator { set: set }.set(
+fn set_pair(
+    noise: PauliLindbladNoiseOperator,
+    left: Items,
+    right: Items,
+    value: Complex,
+    r: ReadReply,
+) -> NoiseCalls {
+    let a = noise.set(
         DecoherenceProduct { items: left },
         DecoherenceProduct { items: right },
         value,
     );
     let answer = a.answer;
-    let operator = a.operator;
-    let after = operator.set;
+    let after = a.operator;
     NoiseCalls {
-        set: after,
+        operator: after,
         verdict: set_compared(answer, r),
         next: r.next,
     }
 }
 
-fn add_pair(set: NoiseSet, left: Items, right: Items, value: Complex, r: ReadReply) -> NoiseCalls {
-    let a = PauliLindbladNoiseOperator { set: set }.add_operator_product(
+fn add_pair(
+    noise: PauliLindbladNoiseOperator,
+    left: Items,
+    right: Items,
+    value: Complex,
+    r: ReadReply,
+) -> NoiseCalls {
+    let a = noise.add_operator_product(
         DecoherenceProduct { items: left },
         DecoherenceProduct { items: right },
         value,
     );
     let outcome = a.outcome;
-    let operator = a.operator;
-    let after = operator.set;
+    let after = a.operator;
     NoiseCalls {
-        set: after,
+        operator: after,
         verdict: done_compared(outcome, r),
         next: r.next,
     }
@@ -73,20 +82,25 @@ fn pair_compared(left: Items, right: Items, a: GetAnswer, r: ReadReply) -> Verdi
     get_compared(a, r)
 }
 
-fn get_pair(set: NoiseSet, left: Items, right: Items, r: ReadReply) -> NoiseCalls {
-    let a = PauliLindbladNoiseOperator { set: set }.get(
+fn get_pair(
+    noise: PauliLindbladNoiseOperator,
+    left: Items,
+    right: Items,
+    r: ReadReply,
+) -> NoiseCalls {
+    let a = noise.get(
         DecoherenceProduct { items: left },
         DecoherenceProduct { items: right },
     );
     NoiseCalls {
-        set: set,
+        operator: noise,
         verdict: pair_compared(left, right, a, r),
         next: r.next,
     }
 }
 
 // One call on a noise set: a verb, a pair, a number and the Rust's reply.
-pub(crate) fn noise_call(s: &[u8], at: usize, set: NoiseSet) -> NoiseCalls {
+pub(crate) fn noise_call(s: &[u8], at: usize, noise: PauliLindbladNoiseOperator) -> NoiseCalls {
     let verb = byte(s, at);
     let p = product(s, verb.next);
     let q = product(s, p.next);
@@ -97,11 +111,11 @@ pub(crate) fn noise_call(s: &[u8], at: usize, set: NoiseSet) -> NoiseCalls {
     let value = z.value;
     let v = verb.value;
     match v {
-        0 => set_pair(set, left, right, value, r),
-        1 => add_pair(set, left, right, value, r),
-        2 => get_pair(set, left, right, r),
+        0 => set_pair(noise, left, right, value, r),
+        1 => add_pair(noise, left, right, value, r),
+        2 => get_pair(noise, left, right, r),
         _ => NoiseCalls {
-            set: set,
+            operator: noise,
             verdict: Verdict::Same,
             next: PAST,
         },
@@ -111,21 +125,21 @@ pub(crate) fn noise_call(s: &[u8], at: usize, set: NoiseSet) -> NoiseCalls {
 fn noise_calls(s: &[u8], at: usize) -> NoiseCalls {
     let count = byte(s, at);
     let n = count.value;
-    let mut set = noise::noise_set::empty_set();
+    let mut operator = PauliLindbladNoiseOperator::new();
     let mut verdict = Verdict::Same;
     let mut next = count.next;
     let mut i: u8 = 0;
     while i < n {
-        let c = noise_call(s, next, set);
-        let after = c.set;
+        let c = noise_call(s, next, operator);
+        let after = c.operator;
         let here = c.verdict;
-        set = after;
+        operator = after;
         verdict = worse(verdict, here);
         next = c.next;
         i += 1;
     }
     NoiseCalls {
-        set: set,
+        operator: operator,
         verdict: verdict,
         next: next,
     }
@@ -133,25 +147,22 @@ fn noise_calls(s: &[u8], at: usize) -> NoiseCalls {
 
 fn on_noise(s: &[u8], at: usize) -> Verdict {
     let c = noise_calls(s, at);
-    let set = c.set;
     let verdict = c.verdict;
-    noise_told(s, c.next, verdict, set)
+    noise_told(s, c.next, verdict, c.operator)
 }
 
 fn remap(s: &[u8], at: usize) -> Verdict {
-    let n = noise_set(s, at);
+    let n = noise_operator(s, at);
     let t = targets(s, n.next);
-    let set = n.set;
+    let noise = n.operator;
     let sites = t.sites;
-    let a = PauliLindbladNoiseOperator { set: set }.remap_qubits(sites);
+    let a = noise.remap_qubits(sites);
     let outcome = a.outcome;
-    let operator = a.operator;
-    let after = operator.set;
     noise_told(
         s,
         t.next,
         refused_if(n.refused | is_refused(outcome)),
-        after,
+        a.operator,
     )
 }
 

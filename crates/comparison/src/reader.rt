@@ -1,6 +1,6 @@
 // A record's bytes, read from a position on. A read past the end gives the position PAST, and so does every read after it.
 ghost use Prim.Native.Nat.{_<_};
-use complex::Complex;
+use spins::Complex;
 
 // A position past every record.
 pub(crate) const PAST: usize = usize::MAX;

@@ -1,11 +1,10 @@
 // The records of a file: read one after the other, and compared by their opcodes.
 use crate::calls;
-use crate::decoherences;
 use crate::hamiltonian_calls;
 use crate::lists;
 use crate::noise_calls;
 use crate::operator_answers;
-use crate::paulis;
+use crate::product_answers;
 use crate::reader::wide;
 use crate::report::Report;
 use crate::report::empty_report;
@@ -29,8 +28,7 @@ enum Next {
 // The verdict on a record, by its opcode.
 fn compared(op: u8, s: &[u8]) -> Verdict {
     match op {
-        0..=6 => paulis::compared(op, s, 1),
-        7..=16 => decoherences::compared(op, s, 1),
+        0..=16 => product_answers::compared(op, s, 1),
         17 | 19 | 38 => calls::compared(op, s, 1),
         18 => hamiltonian_calls::compared(s, 1),
         20 | 39 => noise_calls::compared(op, s, 1),

@@ -2,14 +2,14 @@
 use crate::reader::PAST;
 use crate::reader::byte;
 use crate::reader::number;
-use crate::same::same_number;
 use crate::verdict::Verdict;
 use crate::verdict::agreed;
-use complex::Complex;
-use operators::term_set::GetAnswer;
-use operators::term_set::SetAnswer;
-use refusal::Outcome;
-use refusal::Refusal;
+use observations::records::same_number;
+use spins::Complex;
+use spins::GetAnswer;
+use spins::Outcome;
+use spins::Refusal;
+use spins::SetAnswer;
 
 const DONE: u8 = 0;
 
@@ -56,7 +56,7 @@ pub(crate) fn reply(s: &[u8], at: usize) -> ReadReply {
 fn gives(r: ReadReply, value: Complex) -> bool {
     let told = r.value;
     if r.tag == COEFFICIENT {
-        return same_number(value, told);
+        return same_number(false, value, told);
     }
     false
 }

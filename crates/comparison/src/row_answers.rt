@@ -1,98 +1,195 @@
-// Records on rows of operators, Hamiltonians, noise and open systems, opcodes 25 to 32.
-use crate::answers::row_told;
+// Records on rows of operators, Hamiltonians, noise and open systems, opcodes 25 to 32, and rows beside those written.
 use crate::arguments::BuiltOperator;
 use crate::arguments::hamiltonian;
-use crate::arguments::noise_set;
+use crate::arguments::noise_operator;
 use crate::arguments::operator;
 use crate::arguments::scaled;
 use crate::forms::place;
 use crate::reader::number;
-use crate::row_calls::RowBuffers;
-use crate::row_calls::commutator_row;
-use crate::row_calls::hamiltonian_commutator_row;
-use crate::row_calls::hamiltonian_row;
-use crate::row_calls::noise_row;
-use crate::row_calls::open_row;
-use crate::row_calls::operator_row;
+use crate::reader::short;
+use crate::reader::word;
 use crate::verdict::Verdict;
+use crate::verdict::agreed;
 use crate::verdict::refused_if;
+use crate::verdict::settled;
+use crate::verdict::worse;
 use letters::Kind;
+use observations::buffers::OLD_COLUMN;
+use observations::buffers::OLD_PART;
+use observations::buffers::PLACES;
+use observations::buffers::columns_kept;
+use observations::buffers::parts_kept;
+use spins::Delivery;
+use spins::PauliHamiltonian;
+use spins::PauliLindbladNoiseOperator;
+use spins::PauliLindbladOpenSystem;
+use spins::PauliOperator;
+use spins::commutator_row;
+use spins::hamiltonian_commutator_row;
+use spins::hamiltonian_row;
+use spins::noise_row;
+use spins::open_row;
+use spins::operator_row;
 
-fn told(s: &[u8], at: usize, refused: bool, d: RowBuffers) -> Verdict {
-    let row = d.row;
-    row_told(s, at, refused_if(refused | d.refused), row)
+// The most entries of a row.
+const ENTRIES: usize = 320;
+
+// So many entries in buffers, after what came before, beside those written; past them the buffers are as before the call.
+pub(crate) fn row_told(
+    s: &[u8],
+    at: usize,
+    before: Verdict,
+    count: usize,
+    columns: &[u64; PLACES],
+    re: &[f64; PLACES],
+    im: &[f64; PLACES],
+) -> Verdict {
+    let told = short(s, at);
+    let n = told.value as usize;
+    if ENTRIES < n {
+        return Verdict::Unparsed;
+    }
+    let mut same = n == count;
+    let mut next = told.next;
+    let mut i = 0usize;
+    while i < n {
+        let column = word(s, next);
+        let z = number(s, column.next);
+        let value = z.value;
+        same = same & (columns[i] == column.value) & (re[i] == value.re) & (im[i] == value.im);
+        next = z.next;
+        i += 1;
+    }
+    let rest = columns_kept(columns, n) & parts_kept(re, n) & parts_kept(im, n);
+    settled(s, next, worse(before, agreed(same & rest)))
 }
 
-// The operator and the commutator row of a Pauli operator.
-fn of_operator(commutator: bool, o: BuiltOperator, spins: u32, row: u64) -> RowBuffers {
-    let set = o.set;
-    if commutator {
-        commutator_row(set, spins, row)
-    } else {
-        operator_row(set, spins, row)
+// What a row call delivered into buffers.
+fn delivered(
+    d: Delivery,
+    s: &[u8],
+    at: usize,
+    before: Verdict,
+    columns: &[u64; PLACES],
+    re: &[f64; PLACES],
+    im: &[f64; PLACES],
+) -> Verdict {
+    match d {
+        Delivery::Count(count) => row_told(s, at, before, count, columns, re, im),
+        Delivery::Refused(_) => row_told(
+            s,
+            at,
+            worse(before, Verdict::Refused),
+            0,
+            columns,
+            re,
+            im,
+        ),
     }
 }
 
-fn on_operator(commutator: bool, s: &[u8], at: usize) -> Verdict {
+// The operator row (25 and 31) and the commutator row of a Pauli operator.
+fn operator_delivered(
+    op: u8,
+    o: BuiltOperator,
+    spins: u32,
+    row: u64,
+    s: &[u8],
+    at: usize,
+) -> Verdict {
+    let set = o.set;
+    let terms = PauliOperator { terms: set };
+    let mut columns = [OLD_COLUMN; PLACES];
+    let mut re = [OLD_PART; PLACES];
+    let mut im = [OLD_PART; PLACES];
+    let d = match op {
+        25 | 31 => operator_row(terms, spins, row, &mut columns, &mut re, &mut im),
+        _ => commutator_row(terms, spins, row, &mut columns, &mut re, &mut im),
+    };
+    delivered(d, s, at, refused_if(o.refused), &columns, &re, &im)
+}
+
+fn on_operator(op: u8, s: &[u8], at: usize) -> Verdict {
     let o = operator(Kind::Pauli, s, at);
     let p = place(s, o.next);
-    let d = of_operator(commutator, o, p.spins, p.row);
-    told(s, p.next, o.refused, d)
+    operator_delivered(op, o, p.spins, p.row, s, p.next)
 }
 
 // The same where a number at the end multiplies the operator first.
-fn on_scaled(commutator: bool, s: &[u8], at: usize) -> Verdict {
+fn on_scaled(op: u8, s: &[u8], at: usize) -> Verdict {
     let o = operator(Kind::Pauli, s, at);
     let p = place(s, o.next);
     let z = number(s, p.next);
-    let value = z.value;
-    let t = scaled(o, value, z.next);
-    let d = of_operator(commutator, t, p.spins, p.row);
-    told(s, t.next, t.refused, d)
+    let t = scaled(o, z.value, z.next);
+    operator_delivered(op, t, p.spins, p.row, s, t.next)
 }
 
-fn on_hamiltonian(commutator: bool, s: &[u8], at: usize) -> Verdict {
+// The operator row (26) and the commutator row of a Hamiltonian.
+fn on_hamiltonian(op: u8, s: &[u8], at: usize) -> Verdict {
     let h = hamiltonian(s, at);
     let p = place(s, h.next);
-    let set = h.set;
-    if commutator {
-        return told(
-            s,
-            p.next,
-            h.refused,
-            hamiltonian_commutator_row(set, p.spins, p.row),
-        );
-    }
-    told(s, p.next, h.refused, hamiltonian_row(set, p.spins, p.row))
+    let mut columns = [OLD_COLUMN; PLACES];
+    let mut re = [OLD_PART; PLACES];
+    let mut im = [OLD_PART; PLACES];
+    let d = match op {
+        26 => hamiltonian_row(h.set, p.spins, p.row, &mut columns, &mut re, &mut im),
+        _ => hamiltonian_commutator_row(h.set, p.spins, p.row, &mut columns, &mut re, &mut im),
+    };
+    delivered(d, s, p.next, refused_if(h.refused), &columns, &re, &im)
 }
 
 fn on_noise(s: &[u8], at: usize) -> Verdict {
-    let n = noise_set(s, at);
+    let n = noise_operator(s, at);
     let p = place(s, n.next);
-    let set = n.set;
-    told(s, p.next, n.refused, noise_row(set, p.spins, p.row))
+    let mut columns = [OLD_COLUMN; PLACES];
+    let mut re = [OLD_PART; PLACES];
+    let mut im = [OLD_PART; PLACES];
+    let d = noise_row(n.operator, p.spins, p.row, &mut columns, &mut re, &mut im);
+    delivered(d, s, p.next, refused_if(n.refused), &columns, &re, &im)
+}
+
+// The row of an open system, after what came before.
+pub(crate) fn open_row_told(
+    h: PauliHamiltonian,
+    n: PauliLindbladNoiseOperator,
+    spins: u32,
+    row: u64,
+    s: &[u8],
+    at: usize,
+    before: Verdict,
+) -> Verdict {
+    let mut columns = [OLD_COLUMN; PLACES];
+    let mut re = [OLD_PART; PLACES];
+    let mut im = [OLD_PART; PLACES];
+    let system = PauliLindbladOpenSystem {
+        system: h,
+        noise: n,
+    };
+    let d = open_row(system, spins, row, &mut columns, &mut re, &mut im);
+    delivered(d, s, at, before, &columns, &re, &im)
 }
 
 fn on_system(s: &[u8], at: usize) -> Verdict {
     let h = hamiltonian(s, at);
-    let n = noise_set(s, h.next);
+    let n = noise_operator(s, h.next);
     let p = place(s, n.next);
-    let system = h.set;
-    let set = n.set;
-    let d = open_row(system, set, p.spins, p.row);
-    told(s, p.next, h.refused | n.refused, d)
+    open_row_told(
+        h.set,
+        n.operator,
+        p.spins,
+        p.row,
+        s,
+        p.next,
+        refused_if(h.refused | n.refused),
+    )
 }
 
 pub(crate) fn compared(op: u8, s: &[u8], at: usize) -> Verdict {
     match op {
-        25 => on_operator(false, s, at),
-        26 => on_hamiltonian(false, s, at),
-        27 => on_operator(true, s, at),
-        28 => on_hamiltonian(true, s, at),
+        26 | 28 => on_hamiltonian(op, s, at),
         29 => on_noise(s, at),
-        30 => on_scaled(true, s, at),
-        31 => on_scaled(false, s, at),
+        30 | 31 => on_scaled(op, s, at),
         32 => on_system(s, at),
-        _ => Verdict::Unparsed,
+        _ => on_operator(op, s, at),
     }
 }

@@ -1,7 +1,7 @@
 // What comparing a record comes to.
-use refusal::Carried;
-use refusal::Outcome;
-use refusal::Refusal;
+use spins::Carried;
+use spins::Outcome;
+use spins::Refusal;
 
 pub(crate) enum Verdict {
     Same,

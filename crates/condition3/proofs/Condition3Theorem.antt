@@ -9,25 +9,24 @@ use lib.Dec.{leb}
 use Rattle.refusal.specs.Refusals.{Said, done}
 use Rattle.letters.specs.Gauss.{G}
 use Rattle.complex.proofs.FloatLaws.{clash}
-use Rattle.products.specs.Record.{reach, sameItems}
-use Rattle.products.specs.declared.items.Items.{Items}
+use Rattle.items.specs.Record.{reach, sameItems}
+use Rattle.items.specs.declared.Items.{Items}
 use Rattle.terms.specs.Keyed.{each}
-use Rattle.operators.specs.Reals as reals
-use Rattle.operators.specs.declared.pauli_hamiltonian.PauliHamiltonian.{PauliHamiltonian}
-use Rattle.noise.specs.Pairs.{Key, sameKey, isEmpty}
-use Rattle.noise.specs.Pairs as pairs
-use Rattle.noise.specs.declared.noise_set.NoiseSet.{NoiseSet}
+use Rattle.hamiltonians.specs.Reals as reals
+use Rattle.hamiltonians.specs.declared.pauli_hamiltonian.PauliHamiltonian.{PauliHamiltonian}
+use Rattle.noise_sets.specs.Pairs.{Key, sameKey, isEmpty}
+use Rattle.noise_sets.specs.Pairs as pairs
+use Rattle.noise_sets.specs.declared.NoiseSet.{NoiseSet}
 use Rattle.noise.specs.declared.pauli_noise_operator.PauliLindbladNoiseOperator.{PauliLindbladNoiseOperator}
 use Rattle.open_system.specs.declared.PauliLindbladOpenSystem.{PauliLindbladOpenSystem}
-use Rattle.open_system.specs.OpenRows.{validSystem}
-use Rattle.open_system.specs.OperatorRows.{hamiltonianTerms}
+use Rattle.open_system.specs.Grouping.{validSystem, together, groupAnswer}
+use Rattle.hamiltonians.specs.Reals.{hamiltonianTerms}
 use Rattle.superoperator.specs.Systems.{SoundTerms, onSpins, pairOnSpins}
 use Rattle.superoperator.proofs.Determined.{entries-determine}
 use Rattle.complex.specs.Wholes.{bothWhole}
-use Rattle.rows.specs.Numbers.{halves}
+use Rattle.master_equation.specs.Numbers.{halves}
 use Rattle.rows.specs.Placing.{rowIn}
-use Rattle.open_system.specs.ExactRows.{exactContributions, exactEntriesOf}
-use Rattle.open_system.specs.Grouping.{together, groupAnswer}
+use Rattle.exact_rows.specs.ExactRows.{exactContributions, exactEntriesOf}
 use Rattle.exact_entries.specs.ExactEntries.{wholeHamiltonian, wholeNoise}
 use Rattle.exact_entries.proofs.RowValues.{wholeContributions, SameRows, rows-entries}
 use Rattle.exact_entries.proofs.EntryTheorems as exact_entries

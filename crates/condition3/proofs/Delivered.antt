@@ -11,23 +11,22 @@ use Rattle.refusal.specs.Refusals.{gives}
 use Rattle.letters.specs.Gauss.{G}
 use Rattle.letters.proofs.TestLaws.{and-true, and-left, and-right}
 use Rattle.complex.specs.Wholes.{bothWhole}
-use Rattle.products.specs.Record.{reach}
-use Rattle.products.specs.declared.items.Items.{Items}
+use Rattle.items.specs.Record.{reach}
+use Rattle.items.specs.declared.Items.{Items}
 use Rattle.terms.specs.Keyed.{each, concatMap}
 use Rattle.terms.proofs.KeyedLaws.{each-head, each-tail}
 use Rattle.rows.specs.Calls.{outside}
-use Rattle.operators.specs.Reals as reals
-use Rattle.operators.specs.declared.pauli_hamiltonian.PauliHamiltonian.{PauliHamiltonian}
-use Rattle.noise.specs.Pairs.{Key}
-use Rattle.noise.specs.Pairs as pairs
-use Rattle.noise.specs.declared.noise_set.NoiseTerm.{NoiseTerm}
-use Rattle.noise.specs.declared.noise_set.NoiseSet.{NoiseSet}
+use Rattle.hamiltonians.specs.Reals as reals
+use Rattle.hamiltonians.specs.declared.pauli_hamiltonian.PauliHamiltonian.{PauliHamiltonian}
+use Rattle.noise_sets.specs.Pairs.{Key}
+use Rattle.noise_sets.specs.Pairs as pairs
+use Rattle.noise_sets.specs.declared.NoiseTerm.{NoiseTerm}
+use Rattle.noise_sets.specs.declared.NoiseSet.{NoiseSet}
 use Rattle.open_system.specs.declared.PauliLindbladOpenSystem.{PauliLindbladOpenSystem}
-use Rattle.open_system.specs.OperatorRows.{hamiltonianTerms}
-use Rattle.open_system.specs.NoiseRows as noise_rows
-use Rattle.open_system.specs.OpenRows.{itemsOf}
-use Rattle.open_system.specs.ExactRows.{wholeTerms}
-use Rattle.open_system.proofs.OutsideLaws.{outside-none, first-inside, reach-below, rest-inside}
+use Rattle.hamiltonians.specs.Reals.{hamiltonianTerms}
+use Rattle.outside_sites.specs.SystemItems.{itemsOf}
+use Rattle.exact_rows.specs.ExactRows.{wholeTerms}
+use Rattle.outside_sites.proofs.OutsideLaws.{outside-none, first-inside, reach-below, rest-inside}
 use Rattle.exact_entries.proofs.PassedLaws.{products, passed, gives-row}
 use Rattle.condition3.specs.ReferenceModel.{Line, realPart, Model, modelAfter}
 use Rattle.condition3.specs.Calls.{Call, setsAfter}
@@ -60,8 +59,8 @@ unfolding each
 inside-both n [] b = refl
 inside-both n (p ∷ a) b = ap (λ t. leb (reach p) n && t) (inside-both n a b) ∙ sym (and-assoc (leb (reach p) n) (inside n a) (inside n b))
 
-inside-sides : (n : ℕ) (l : List NoiseTerm) → inside n (noise_rows.itemsOf l) ≡ each (λ t ts. leb (reach (t .left)) n && leb (reach (t .right)) n) l
-unfolding each noise_rows.itemsOf concatMap
+inside-sides : (n : ℕ) (l : List NoiseTerm) → inside n (pairs.itemsOf l) ≡ each (λ t ts. leb (reach (t .left)) n && leb (reach (t .right)) n) l
+unfolding each pairs.itemsOf concatMap
 inside-sides n [] = refl
 inside-sides n (t ∷ l) =
     ap (λ b. leb (reach (t .left)) n && (leb (reach (t .right)) n && b)) (inside-sides n l)
@@ -81,7 +80,7 @@ partsWhole l = each (λ x xs. bothWhole (x .1)) l
 module _ (h : PauliHamiltonian) (w : NoiseSet) where
   inside-lines : (n : ℕ) → inside n (itemsOf (hamiltonianTerms h) (pairs.heldBy w)) ≡ (sitesBelow n (realLines h) && pairSitesBelow n (noiseLines w))
   inside-lines n =
-      inside-both n (map (λ t. t .items) (hamiltonianTerms h)) (noise_rows.itemsOf (pairs.heldBy w))
+      inside-both n (map (λ t. t .items) (hamiltonianTerms h)) (pairs.itemsOf (pairs.heldBy w))
       ∙ ap₂ _&&_
       (each-map _ (λ t ts. leb (reach (t .items)) n) (λ p qs. leb (reach p) n) (λ t ts. refl) (hamiltonianTerms h)
       ∙ each-map reals.complexTerm (λ t ts. leb (reach (t .items)) n) (λ t ts. leb (reach (t .items)) n) (λ t ts. refl) (reals.heldBy h)

@@ -9,20 +9,20 @@ use lib.Ieee.{Float, ofBits, add, eq}
 use Rattle.letters.proofs.TestLaws.{and-true, and-left, and-false}
 use Rattle.complex.specs.Complex.{plusZero, sumOf, inRange, partInRange}
 use Rattle.complex.proofs.FloatLaws.{clash, in-range-real, is-zero-real}
-use Rattle.products.specs.Record.{valid, sameItems}
-use Rattle.products.specs.declared.items.Items.{Items}
-use Rattle.products.proofs.SameLaws.{same-equal}
+use Rattle.items.specs.Record.{valid, sameItems}
+use Rattle.items.specs.declared.Items.{Items}
+use Rattle.items.proofs.SameLaws.{same-equal}
 use Rattle.terms.specs.Keyed.{each}
 use Rattle.terms.specs.Setting.{mostTerms}
 use Rattle.terms.proofs.EachLaws.{each-follows}
-use Rattle.operators.specs.Reals.{realTerms}
-use Rattle.operators.specs.Reals as reals
-use Rattle.operators.specs.RealAnswers.{setReal, addReal}
-use Rattle.operators.specs.declared.pauli_hamiltonian.PauliHamiltonian.{PauliHamiltonian}
-use Rattle.operators.proofs.RealSetLaws.{realSets}
+use Rattle.hamiltonians.specs.Reals.{realTerms}
+use Rattle.hamiltonians.specs.Reals as reals
+use Rattle.hamiltonians.specs.RealAnswers.{setReal, addReal}
+use Rattle.hamiltonians.specs.declared.pauli_hamiltonian.PauliHamiltonian.{PauliHamiltonian}
+use Rattle.hamiltonians.proofs.RealSetLaws.{realSets}
 use Rattle.terms.proofs.ValidSetLaws as valid_sets
-use Rattle.operators.proofs.RealValidLaws.{validHamiltonians}
-use Rattle.operators.proofs.RealValidAnswers as real_answers
+use Rattle.hamiltonians.proofs.RealValidLaws.{validHamiltonians}
+use Rattle.hamiltonians.proofs.RealValidAnswers as real_answers
 use Rattle.condition3.specs.ReferenceModel.{Line, realPart, writeLine, addLine, unlessFull, unlessRefused, lawfulTerm}
 use Rattle.condition3.proofs.LineLaws.{linesOf, Faithful}
 use Rattle.condition3.proofs.AnswerLaws.{past, either}

@@ -11,7 +11,7 @@ use borrow.Author.Tests.{lt-ltb, not-true}
 use Rattle.complex.proofs.FloatLaws.{clash}
 use Rattle.letters.proofs.TestLaws.{and-true, and-left, and-right}
 use Rattle.complex.specs.Complex.{plusZero, partInRange, isZero, inRange}
-use Rattle.products.specs.Record.{valid}
+use Rattle.items.specs.Record.{valid}
 use Rattle.terms.specs.Keyed.{has, each}
 use Rattle.terms.specs.Kind.{Terms}
 use Rattle.terms.specs.Setting.{mostTerms, keyed, write, hasRoom}
@@ -22,23 +22,24 @@ use Rattle.terms.specs.Places.{goodTerm}
 use Rattle.terms.proofs.GoodLaws.{good-key, good-coefficient, good-different, good-keys, good-coefficients, good-differents}
 use Rattle.terms.proofs.SettingLaws.{Alike, different, write-other}
 use Rattle.terms.proofs.FilledLaws.{held-filled}
-use Rattle.operators.specs.Reals.{realTerms}
-use Rattle.operators.specs.Reals as reals
-use Rattle.operators.specs.RealAnswers.{setReal}
-use Rattle.operators.specs.declared.pauli_hamiltonian.RealTerm.{RealTerm}
-use Rattle.operators.specs.declared.pauli_hamiltonian.PauliHamiltonian.{PauliHamiltonian}
-use Rattle.operators.proofs.RealSetLaws.{realSets}
-use Rattle.operators.proofs.RealValidLaws.{validHamiltonians}
-use Rattle.operators.proofs.RealValidLaws as real_valid
+use Rattle.hamiltonians.specs.Reals.{realTerms}
+use Rattle.hamiltonians.specs.Reals as reals
+use Rattle.hamiltonians.specs.RealAnswers.{setReal}
+use Rattle.hamiltonians.specs.declared.pauli_hamiltonian.RealTerm.{RealTerm}
+use Rattle.hamiltonians.specs.declared.pauli_hamiltonian.PauliHamiltonian.{PauliHamiltonian}
+use Rattle.hamiltonians.proofs.RealSetLaws.{realSets}
+use Rattle.hamiltonians.proofs.RealValidLaws.{validHamiltonians}
+use Rattle.hamiltonians.proofs.RealValidLaws as real_valid
 use Rattle.terms.proofs.ValidSetLaws as valid_sets
-use Rattle.noise.specs.Pairs.{pairTerms}
-use Rattle.noise.specs.Pairs as pairs
-use Rattle.noise.specs.Answers.{validKey, emptySide, setPair}
-use Rattle.noise.specs.declared.noise_set.NoiseTerm.{NoiseTerm}
-use Rattle.noise.specs.declared.noise_set.NoiseSet.{NoiseSet}
-use Rattle.noise.proofs.SetLaws.{noiseSets}
-use Rattle.noise.proofs.ValidLaws.{validNoiseSets}
-use Rattle.noise.proofs.ValidLaws as pairs_valid
+use Rattle.noise_sets.specs.Pairs.{pairTerms}
+use Rattle.noise_sets.specs.Pairs as pairs
+use Rattle.noise_sets.specs.Answers.{validKey, emptySide}
+use Rattle.noise_chains.specs.ChainAnswers.{setPair}
+use Rattle.noise_sets.specs.declared.NoiseTerm.{NoiseTerm}
+use Rattle.noise_sets.specs.declared.NoiseSet.{NoiseSet}
+use Rattle.noise_sets.proofs.SetLaws.{noiseSets}
+use Rattle.noise_sets.proofs.ValidLaws.{validNoiseSets}
+use Rattle.noise_sets.proofs.ValidLaws as pairs_valid
 use Rattle.condition3.specs.Calls.{setHamiltonian, setNoise, called, setsAfter, callsThatSet}
 
 -- ---- a term with a new key is written at the end

@@ -3,14 +3,14 @@
 use mathlib.Core.Path.{_≡_, refl, ap, _∙_}
 use mathlib.Core.Bool.{true}
 use mathlib.Core.List.{List, [], _∷_}
-use Rattle.products.specs.Record.{sameItems}
+use Rattle.items.specs.Record.{sameItems}
 use Rattle.terms.specs.Runs.{run}
-use Rattle.operators.specs.Reals as reals
-use Rattle.operators.specs.Complexes as operators
-use Rattle.operators.proofs.RealValidLaws as real_valid
-use Rattle.noise.specs.Pairs.{sameKey}
-use Rattle.noise.specs.Pairs as pairs
-use Rattle.noise.proofs.ValidLaws as pairs_valid
+use Rattle.hamiltonians.specs.Reals as reals
+use Rattle.term_sets.specs.Complexes as operators
+use Rattle.hamiltonians.proofs.RealValidLaws as real_valid
+use Rattle.noise_sets.specs.Pairs.{sameKey}
+use Rattle.noise_sets.specs.Pairs as pairs
+use Rattle.noise_sets.proofs.ValidLaws as pairs_valid
 use Rattle.condition3.specs.Calls.{Call, setHamiltonian, addHamiltonian, setNoise, addNoise, addNoiseFromFullOperators, Sets, newSets, called, setsAfter}
 use Rattle.condition3.specs.ReferenceModel.{realPart, writeLine, addLine, addLines, unlessFull, unlessRefused, lawfulTerm, lawfulPair, lawfulOperators, fullLines, Model, emptyModel, noted, modelAfter}
 use Rattle.condition3.proofs.HamiltonianLines.{realLines, set-real-valid, add-real-valid, set-real-lines, add-real-lines}

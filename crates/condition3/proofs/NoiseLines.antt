@@ -17,19 +17,20 @@ use Rattle.terms.specs.Chains.{pairTerms as fullTerms}
 use Rattle.terms.specs.Entries as entries
 use Rattle.terms.proofs.KeyedLaws.{map-append}
 use Rattle.terms.proofs.EachLaws.{each-follows}
-use Rattle.operators.specs.Complexes.{complexTerms, complexProducts}
-use Rattle.operators.specs.Complexes as operators
-use Rattle.operators.specs.declared.term_set.Term.{Term}
-use Rattle.operators.specs.declared.term_set.TermSet.{TermSet}
-use Rattle.noise.specs.Pairs.{Key, sameKey, pairTerms, isEmpty, heldBy, goodCoefficient, validSet}
-use Rattle.noise.specs.Answers.{validKey, emptySide, setPair, addPair, addFullOperators, allInRange, collected}
-use Rattle.noise.specs.declared.noise_set.NoiseTerm.{NoiseTerm}
-use Rattle.noise.specs.declared.noise_set.NoiseSet.{NoiseSet}
+use Rattle.term_sets.specs.Complexes.{complexTerms, complexProducts}
+use Rattle.term_sets.specs.Complexes as operators
+use Rattle.term_sets.specs.declared.Term.{Term}
+use Rattle.term_sets.specs.declared.TermSet.{TermSet}
+use Rattle.noise_sets.specs.Pairs.{Key, sameKey, pairTerms, isEmpty, heldBy, goodCoefficient, validSet}
+use Rattle.noise_sets.specs.Answers.{validKey, emptySide}
+use Rattle.noise_chains.specs.ChainAnswers.{setPair, addPair, addFullOperators, allInRange, collected}
+use Rattle.noise_sets.specs.declared.NoiseTerm.{NoiseTerm}
+use Rattle.noise_sets.specs.declared.NoiseSet.{NoiseSet}
 use Rattle.terms.proofs.FilledLaws.{held-filled}
-use Rattle.noise.proofs.SetLaws.{noiseSets}
+use Rattle.noise_sets.proofs.SetLaws.{noiseSets}
 use Rattle.terms.proofs.ValidSetLaws as valid_sets
-use Rattle.noise.proofs.ValidLaws.{same-key-equal, validNoiseSets}
-use Rattle.noise.proofs.NoiseValidAnswers as answers
+use Rattle.noise_sets.proofs.ValidLaws.{same-key-equal, validNoiseSets}
+use Rattle.noise_chains.proofs.NoiseValidAnswers as answers
 use Rattle.condition3.specs.ReferenceModel.{Line, writeLine, addLine, addLines, unlessFull, linesInRange, unlessRefused, lawfulPair, lawfulOperators, fullLines}
 use Rattle.condition3.proofs.LineLaws.{lineOf, linesOf, Faithful, linesIf, lines-addAll}
 use Rattle.condition3.proofs.AnswerLaws.{past, unless, either}

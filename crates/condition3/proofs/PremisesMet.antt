@@ -10,9 +10,9 @@ use lib.Ieee.{Float, binary64, ofInt, ofBits, eq}
 use Rattle.letters.specs.Tests.{every}
 use Rattle.complex.specs.Complex.{isZero, inRange}
 use Rattle.complex.specs.Wholes.{bothWhole}
-use Rattle.products.specs.Lists.{padded}
-use Rattle.products.specs.Record.{capacity, inShape, placeValid, valid, reach}
-use Rattle.products.specs.declared.items.Items.{Items}
+use Rattle.items.specs.Lists.{padded}
+use Rattle.items.specs.Record.{capacity, inShape, placeValid, valid, reach}
+use Rattle.items.specs.declared.Items.{Items}
 use Rattle.terms.specs.Keyed.{each}
 use Rattle.terms.specs.Runs.{run}
 use Rattle.condition3.specs.Calls.{Call, setHamiltonian, setNoise}

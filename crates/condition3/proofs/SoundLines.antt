@@ -12,27 +12,27 @@ use Rattle.letters.proofs.TestLaws.{and-true, and-left, and-right}
 use Rattle.complex.specs.Complex.{plusZero, isZero, partInRange, inRange}
 use Rattle.complex.specs.declared.Complex.{Complex}
 use Rattle.complex.proofs.FloatLaws.{is-zero-real}
-use Rattle.products.specs.Record.{valid, reach, sameItems}
-use Rattle.products.specs.declared.items.Items.{Items}
+use Rattle.items.specs.Record.{valid, reach, sameItems}
+use Rattle.items.specs.declared.Items.{Items}
 use Rattle.terms.specs.Keyed.{has, each}
 use Rattle.terms.specs.Kind.{Terms}
 use Rattle.terms.specs.Setting.{keyed}
 use Rattle.terms.proofs.KeyedLaws.{All, all-each, all-map}
 use Rattle.terms.proofs.SettingLaws.{different}
 use Rattle.terms.proofs.EachLaws.{each-follows, each-both}
-use Rattle.operators.specs.Matrices.{Fits}
-use Rattle.operators.specs.Reals.{realTerms}
-use Rattle.operators.specs.Reals as reals
-use Rattle.operators.specs.declared.pauli_hamiltonian.PauliHamiltonian.{PauliHamiltonian}
+use Rattle.term_sets.specs.Matrices.{Fits}
+use Rattle.hamiltonians.specs.Reals.{realTerms}
+use Rattle.hamiltonians.specs.Reals as reals
+use Rattle.hamiltonians.specs.declared.pauli_hamiltonian.PauliHamiltonian.{PauliHamiltonian}
 use Rattle.terms.proofs.ValidSetLaws as valid_sets
-use Rattle.operators.proofs.RealValidLaws.{validHamiltonians}
-use Rattle.operators.proofs.RealValidLaws as real_valid
-use Rattle.noise.specs.Pairs.{Key, sameKey, pairTerms, isEmpty}
-use Rattle.noise.specs.Pairs as pairs
-use Rattle.noise.specs.declared.noise_set.NoiseSet.{NoiseSet}
-use Rattle.noise.proofs.ValidLaws.{validNoiseSets}
-use Rattle.noise.proofs.ValidLaws as pairs_valid
-use Rattle.open_system.proofs.SystemTheorems.{FitsPair}
+use Rattle.hamiltonians.proofs.RealValidLaws.{validHamiltonians}
+use Rattle.hamiltonians.proofs.RealValidLaws as real_valid
+use Rattle.noise_sets.specs.Pairs.{Key, sameKey, pairTerms, isEmpty}
+use Rattle.noise_sets.specs.Pairs as pairs
+use Rattle.noise_sets.specs.declared.NoiseSet.{NoiseSet}
+use Rattle.noise_sets.proofs.ValidLaws.{validNoiseSets}
+use Rattle.noise_sets.proofs.ValidLaws as pairs_valid
+use Rattle.open_rows.proofs.SystemTheorems.{FitsPair}
 use Rattle.superoperator.specs.Systems.{SoundTerms, onSpins, pairOnSpins}
 use Rattle.complex.specs.Wholes.{bothWhole}
 use Rattle.condition3.specs.ReferenceModel.{Line, realPart}

@@ -17,7 +17,7 @@ use Rattle.terms.specs.Gaussian.{gaussian}
 use Rattle.terms.proofs.KeyedLaws.{each-head, each-tail}
 use Rattle.superoperator.specs.Systems.{SameTerms}
 use Rattle.complex.specs.Wholes.{isWhole, bothWhole}
-use Rattle.open_system.specs.ExactRows.{gaussOf}
+use Rattle.exact_rows.specs.ExactRows.{gaussOf}
 use Rattle.condition3.specs.ReferenceModel.{Line, realPart, onLine}
 use Rattle.condition3.specs.Condition3.{sameParts, hasLine, SamePage}
 use Rattle.complex.proofs.WholeLaws.{whole-equal, zero-whole, zero-parts}

@@ -14,26 +14,23 @@ use Rattle.letters.specs.Single.{cell}
 use Rattle.letters.specs.Rows.{columnOf, rowPower}
 use Rattle.complex.specs.Complex.{atMost, partInRange, inRange, isZero, isPlusZero}
 use Rattle.complex.specs.Wholes.{bothWhole, partsOf}
-use Rattle.products.specs.Lists.{support, padded, sameList}
-use Rattle.products.specs.Record.{placeValid, inShape, valid, lookup, letterAt, reach, recordOf, sameItems}
-use Rattle.products.specs.Answers.{emptyProduct}
+use Rattle.items.specs.Lists.{support, padded, sameList}
+use Rattle.items.specs.Record.{placeValid, inShape, valid, lookup, letterAt, reach, recordOf, sameItems, emptyProduct}
 use Rattle.terms.specs.Keyed.{held, has, written, each, concatMap}
 use Rattle.terms.specs.Runs.{run}
 use Rattle.terms.specs.Setting.{write, hasRoom}
 use Rattle.terms.specs.Places.{goodTerm, validPlaces}
-use Rattle.rows.specs.Equation.{𝟚}
-use Rattle.rows.specs.Contributions.{commutatorTerms, noiseTerms}
+use Rattle.master_equation.specs.Equation.{𝟚}
+use Rattle.master_equation.specs.Contributions.{commutatorTerms, noiseTerms}
 use Rattle.rows.specs.Placing.{placed, placeAll, rowOf, nonzero, keptBy, rowIn}
 use Rattle.rows.specs.Calls.{outside, unlessOutside, checkedRow}
-use Rattle.rows.specs.ExactRows.{whole}
-use Rattle.operators.specs.Reals as reals
-use Rattle.operators.specs.RealAnswers.{setReal}
-use Rattle.noise.specs.Pairs as pairs
-use Rattle.noise.specs.Answers.{setPair}
-use Rattle.open_system.specs.NoiseRows as noise_rows
-use Rattle.open_system.specs.OpenRows.{validSystem}
-use Rattle.open_system.specs.ExactRows.{gaussOf, exactContributions, wholeTerms, unlessNotWhole, exactRowOfTerms, exactRow}
-use Rattle.open_system.specs.Grouping.{groupAnswer}
+use Rattle.exact_sums.specs.ExactSums.{whole}
+use Rattle.hamiltonians.specs.Reals as reals
+use Rattle.hamiltonians.specs.RealAnswers.{setReal}
+use Rattle.noise_sets.specs.Pairs as pairs
+use Rattle.noise_chains.specs.ChainAnswers.{setPair}
+use Rattle.open_system.specs.Grouping.{validSystem, groupAnswer}
+use Rattle.exact_rows.specs.ExactRows.{gaussOf, exactContributions, wholeTerms, unlessNotWhole, exactRowOfTerms, exactRow}
 use Rattle.condition3.specs.Calls.{called, setsAfter}
 use Rattle.condition3.specs.Condition3.{systemAfter}
 use Rattle.condition3.proofs.PremisesMet.{worked}
@@ -49,7 +46,7 @@ listing =
 
 pub worked-rows : map (exactRow (systemAfter worked) 1) (0 ∷ 1 ∷ 2 ∷ 3 ∷ []) ≡ map gives listing
 unfolding systemAfter setsAfter run called setReal setPair groupAnswer validSystem
-    exactRow exactRowOfTerms checkedRow unlessOutside unlessNotWhole outside noise_rows.itemsOf wholeTerms exactContributions gaussOf partsOf bothWhole
+    exactRow exactRowOfTerms checkedRow unlessOutside unlessNotWhole outside pairs.itemsOf wholeTerms exactContributions gaussOf partsOf bothWhole
     ofInt ofBits eq atMost partInRange inRange isZero isPlusZero
     every firstFrom 𝟘 𝟙 −𝟙 i⁺ i⁻ _⊕_ _⊗_ i^ eqℤ eqG total two-by-two pauli decoherence bit cell columnOf rowPower
     padded sameList placeValid inShape valid lookup letterAt reach recordOf sameItems support emptyProduct

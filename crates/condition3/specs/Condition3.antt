@@ -12,14 +12,13 @@ use Rattle.refusal.specs.Refusals.{gives, done}
 use Rattle.letters.specs.Gauss.{G}
 use Rattle.complex.specs.declared.Complex.{Complex}
 use Rattle.complex.specs.Wholes.{bothWhole}
-use Rattle.products.specs.Record.{reach, sameItems}
-use Rattle.products.specs.Answers.{mostSpins}
+use Rattle.items.specs.Record.{reach, sameItems}
+use Rattle.row_entries.specs.Answers.{mostSpins}
 use Rattle.terms.specs.Keyed.{has, each}
-use Rattle.noise.specs.Pairs.{sameKey, isEmpty}
+use Rattle.noise_sets.specs.Pairs.{sameKey, isEmpty}
 use Rattle.open_system.specs.declared.PauliLindbladOpenSystem.{PauliLindbladOpenSystem}
-use Rattle.open_system.specs.OpenRows.{validSystem}
-use Rattle.open_system.specs.ExactRows.{exactRow, exactEntriesOf}
-use Rattle.open_system.specs.Grouping.{groupAnswer}
+use Rattle.open_system.specs.Grouping.{validSystem, groupAnswer}
+use Rattle.exact_rows.specs.ExactRows.{exactRow, exactEntriesOf}
 use Rattle.condition3.specs.Calls.{Call, setsAfter, callsThatSet}
 use Rattle.condition3.specs.ReferenceModel.{Line, onLine, Model, modelAfter}
 

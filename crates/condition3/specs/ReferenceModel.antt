@@ -8,15 +8,15 @@ use lib.ListN.{length}
 use lib.Ieee.{Float}
 use Rattle.complex.specs.Complex.{plusZero, sumOf, productOf, conjugateOf, isZero, inRange}
 use Rattle.complex.specs.declared.Complex.{Complex}
-use Rattle.products.specs.Record.{valid, sameItems}
-use Rattle.products.specs.declared.items.Items.{Items}
+use Rattle.items.specs.Record.{valid, sameItems}
+use Rattle.items.specs.declared.Items.{Items}
 use Rattle.terms.specs.Keyed.{concatMap}
 use Rattle.terms.specs.Runs.{run}
 use Rattle.terms.specs.Setting.{mostTerms}
-use Rattle.operators.specs.Complexes as operators
-use Rattle.operators.specs.declared.term_set.Term.{Term}
-use Rattle.operators.specs.declared.term_set.TermSet.{TermSet}
-use Rattle.noise.specs.Pairs.{Key, sameKey, isEmpty}
+use Rattle.term_sets.specs.Complexes as operators
+use Rattle.term_sets.specs.declared.Term.{Term}
+use Rattle.term_sets.specs.declared.TermSet.{TermSet}
+use Rattle.noise_sets.specs.Pairs.{Key, sameKey, isEmpty}
 use Rattle.condition3.specs.Calls.{Call, setHamiltonian, addHamiltonian, setNoise, addNoise, addNoiseFromFullOperators}
 
 -- "A line is a key and two f64 parts"

@@ -5,28 +5,27 @@ use mathlib.Core.Path.{_≡_, refl, sym, ap, ap₂, _∙_}
 use mathlib.Core.Bool.{false}
 use mathlib.Core.List.{List, [], _∷_, _++_, map}
 use Rattle.letters.specs.Gauss.{G}
-use Rattle.products.specs.declared.items.Items.{Items}
+use Rattle.items.specs.declared.Items.{Items}
 use Rattle.terms.specs.Keyed.{concatMap}
 use Rattle.terms.proofs.KeyedLaws.{All, all-nil, all-cons}
-use Rattle.rows.specs.Contributions.{pairColumn}
-use Rattle.rows.specs.Sums.{sumAt, valueAt}
+use Rattle.row_entries.specs.PairColumns.{pairColumn}
+use Rattle.master_equation.specs.Sums.{sumAt, valueAt}
 use Rattle.rows.proofs.PlacingLaws.{rowIn-value}
-use Rattle.operators.specs.Matrices.{Fits}
-use Rattle.operators.specs.Reals as reals
-use Rattle.operators.specs.declared.pauli_hamiltonian.RealTerm.{RealTerm}
-use Rattle.operators.specs.declared.pauli_hamiltonian.PauliHamiltonian.{PauliHamiltonian}
-use Rattle.noise.specs.Pairs.{Key}
-use Rattle.noise.specs.Pairs as pairs
-use Rattle.noise.specs.declared.noise_set.NoiseTerm.{NoiseTerm}
-use Rattle.noise.specs.declared.noise_set.NoiseSet.{NoiseSet}
+use Rattle.term_sets.specs.Matrices.{Fits}
+use Rattle.hamiltonians.specs.Reals as reals
+use Rattle.hamiltonians.specs.declared.pauli_hamiltonian.RealTerm.{RealTerm}
+use Rattle.hamiltonians.specs.declared.pauli_hamiltonian.PauliHamiltonian.{PauliHamiltonian}
+use Rattle.noise_sets.specs.Pairs.{Key}
+use Rattle.noise_sets.specs.Pairs as pairs
+use Rattle.noise_sets.specs.declared.NoiseTerm.{NoiseTerm}
+use Rattle.noise_sets.specs.declared.NoiseSet.{NoiseSet}
 use Rattle.open_system.specs.declared.PauliLindbladOpenSystem.{PauliLindbladOpenSystem}
-use Rattle.open_system.specs.Accepted.{Accepted}
-use Rattle.open_system.specs.OperatorRows.{hamiltonianTerms}
-use Rattle.open_system.specs.OperatorRows as operator_rows
-use Rattle.open_system.specs.NoiseRows as noise_rows
-use Rattle.open_system.specs.ExactRows.{gaussOf, exactContributions, exactCommutatorPart, exactEntriesOf}
-use Rattle.open_system.proofs.AcceptedLaws.{accepted-first, accepted-rest, accepted-left, accepted-right, all-both, hamiltonian-valid, noise-valid}
-use Rattle.open_system.proofs.SystemTheorems.{FitsPair}
+use Rattle.outside_sites.specs.Accepted.{Accepted}
+use Rattle.hamiltonians.specs.Reals.{hamiltonianTerms}
+use Rattle.term_sets.specs.Complexes as operator_rows
+use Rattle.exact_rows.specs.ExactRows.{gaussOf, exactContributions, exactCommutatorPart, exactEntriesOf}
+use Rattle.outside_sites.proofs.AcceptedLaws.{accepted-first, accepted-rest, accepted-left, accepted-right, all-both, hamiltonian-valid, noise-valid}
+use Rattle.open_rows.proofs.SystemTheorems.{FitsPair}
 use Rattle.exact_entries.specs.ExactEntries.{wholeHamiltonian, wholeNoise, systemEntry, ExactRowTheorem}
 use Rattle.exact_entries.proofs.RowValues.{wholeContributions, row-sum}
 use Rattle.exact_entries.proofs.PassedLaws.{products, Passed, passed}
@@ -56,23 +55,23 @@ products-fit {n} (t ∷ l) a =
     (w .held, w .sites-below)
     (products-fit l (accepted-rest (t .items) (operator_rows.itemsOf (map reals.complexTerm l)) a))
 
-sides-fit : {n rows r : ℕ} (l : List NoiseTerm) → Accepted n rows r (noise_rows.itemsOf l)
+sides-fit : {n rows r : ℕ} (l : List NoiseTerm) → Accepted n rows r (pairs.itemsOf l)
     → All (λ (t : Key × G). FitsPair n (t .0)) (map (λ (t : NoiseTerm). ((t .left, t .right), gaussOf (t .coefficient))) l)
-unfolding noise_rows.itemsOf concatMap
+unfolding pairs.itemsOf concatMap
 sides-fit {n} [] a = all-nil (λ (t : Key × G). FitsPair n (t .0))
 sides-fit {n} (t ∷ l) a =
-    let left = accepted-first (t .left) (t .right ∷ noise_rows.itemsOf l) a in
-    let b = accepted-rest (t .left) (t .right ∷ noise_rows.itemsOf l) a in
-    let right = accepted-first (t .right) (noise_rows.itemsOf l) b in
+    let left = accepted-first (t .left) (t .right ∷ pairs.itemsOf l) a in
+    let b = accepted-rest (t .left) (t .right ∷ pairs.itemsOf l) a in
+    let right = accepted-first (t .right) (pairs.itemsOf l) b in
     all-cons (λ (t : Key × G). FitsPair n (t .0)) ((t .left, t .right), gaussOf (t .coefficient)) (map (λ (t : NoiseTerm). ((t .left, t .right), gaussOf (t .coefficient))) l)
     ((left .held, left .sites-below), (right .held, right .sites-below))
-    (sides-fit l (accepted-rest (t .right) (noise_rows.itemsOf l) b))
+    (sides-fit l (accepted-rest (t .right) (pairs.itemsOf l) b))
 
 module _ (s : PauliLindbladOpenSystem) (n r : ℕ) (p : Passed s n) (below : r < 2 ^ n * 2 ^ n) where
   taken : Accepted n (2 ^ n * 2 ^ n) r (products s)
   taken =
       record {
-        held = all-both (operator_rows.itemsOf (hamiltonianTerms (s .system))) (noise_rows.itemsOf (pairs.heldBy (s .noise .set))) (hamiltonian-valid (s .system) (p .hamiltonian)) (noise-valid (s .noise .set) (p .noise));
+        held = all-both (operator_rows.itemsOf (hamiltonianTerms (s .system))) (pairs.itemsOf (pairs.heldBy (s .noise .set))) (hamiltonian-valid (s .system) (p .hamiltonian)) (noise-valid (s .noise .set) (p .noise));
         few = p .few;
         below = below;
         inside = p .inside;
@@ -80,11 +79,11 @@ module _ (s : PauliLindbladOpenSystem) (n r : ℕ) (p : Passed s n) (below : r <
 
   hamiltonian-fits : All (λ t. Fits n (t .0)) (wholeHamiltonian (s .system))
   unfolding wholeHamiltonian
-  hamiltonian-fits = products-fit (reals.heldBy (s .system)) (accepted-left (operator_rows.itemsOf (hamiltonianTerms (s .system))) (noise_rows.itemsOf (pairs.heldBy (s .noise .set))) taken)
+  hamiltonian-fits = products-fit (reals.heldBy (s .system)) (accepted-left (operator_rows.itemsOf (hamiltonianTerms (s .system))) (pairs.itemsOf (pairs.heldBy (s .noise .set))) taken)
 
   noise-fits : All (λ t. FitsPair n (t .0)) (wholeNoise (s .noise .set))
   unfolding wholeNoise
-  noise-fits = sides-fit (pairs.heldBy (s .noise .set)) (accepted-right (operator_rows.itemsOf (hamiltonianTerms (s .system))) (noise_rows.itemsOf (pairs.heldBy (s .noise .set))) taken)
+  noise-fits = sides-fit (pairs.heldBy (s .noise .set)) (accepted-right (operator_rows.itemsOf (hamiltonianTerms (s .system))) (pairs.itemsOf (pairs.heldBy (s .noise .set))) taken)
 
   -- the row's values are sums of contributions
   value-is : (c : ℕ) → valueAt c (exactEntriesOf s n r) ≡ sumAt c (wholeContributions n r (wholeHamiltonian (s .system)) (wholeNoise (s .noise .set)))

@@ -9,16 +9,17 @@ use borrow.Author.Tests.{le-ltb, lt-leb, ltb-false, leb-false}
 use Rattle.refusal.specs.Refusals.{Said, gives, refuses}
 use Rattle.complex.proofs.FloatLaws.{clash}
 use Rattle.letters.specs.Gauss.{G}
-use Rattle.products.specs.Answers.{mostSpins}
-use Rattle.products.specs.declared.items.Items.{Items}
+use Rattle.row_entries.specs.Answers.{mostSpins}
+use Rattle.items.specs.declared.Items.{Items}
 use Rattle.terms.proofs.AnswerLaws.{not-both}
 use Rattle.rows.specs.Calls.{outside, unlessOutside, checkedRow}
-use Rattle.operators.specs.Reals as reals
-use Rattle.noise.specs.Pairs as pairs
+use Rattle.hamiltonians.specs.Reals as reals
+use Rattle.noise_sets.specs.Pairs as pairs
 use Rattle.open_system.specs.declared.PauliLindbladOpenSystem.{PauliLindbladOpenSystem}
-use Rattle.open_system.specs.OperatorRows.{hamiltonianTerms}
-use Rattle.open_system.specs.OpenRows.{validSystem, itemsOf}
-use Rattle.open_system.specs.ExactRows.{wholeTerms, unlessNotWhole, exactRowOfTerms, exactRow, exactEntriesOf}
+use Rattle.hamiltonians.specs.Reals.{hamiltonianTerms}
+use Rattle.open_system.specs.Grouping.{validSystem}
+use Rattle.outside_sites.specs.SystemItems.{itemsOf}
+use Rattle.exact_rows.specs.ExactRows.{wholeTerms, unlessNotWhole, exactRowOfTerms, exactRow, exactEntriesOf}
 
 -- ---- tests before an answer that gives something
 

@@ -9,19 +9,19 @@ use mathlib.Core.Logic.{_↔_}
 use lib.Arith.{digits-lt, digits-div, digits-mod}
 use lib.Pow.{pow-pos}
 use Rattle.letters.specs.Gauss.{G, _⊕_}
-use Rattle.products.specs.Record.{letterAt}
-use Rattle.products.specs.declared.items.Items.{Items}
+use Rattle.items.specs.Record.{letterAt}
+use Rattle.items.specs.declared.Items.{Items}
 use Rattle.terms.specs.Keyed.{concatMap}
 use Rattle.terms.proofs.KeyedLaws.{All}
-use Rattle.rows.specs.Numbers.{halves}
+use Rattle.master_equation.specs.Numbers.{halves}
 use Rattle.rows.specs.Placing.{rowIn}
-use Rattle.rows.specs.Contributions.{pairColumn}
-use Rattle.rows.specs.Sums.{Below, sumAt}
+use Rattle.row_entries.specs.PairColumns.{pairColumn}
+use Rattle.master_equation.specs.Sums.{Below, sumAt}
 use Rattle.rows.proofs.PlacingLaws.{below-append, sum-append}
-use Rattle.rows.proofs.SuperoperatorTheorems.{commutator-below, noise-below}
-use Rattle.operators.specs.Matrices.{Fits}
-use Rattle.noise.specs.Pairs.{Key}
-use Rattle.open_system.proofs.SystemTheorems.{FitsPair, commutatorHalves, noiseHalves, commutator-theorem, noise-theorem}
+use Rattle.master_equation.proofs.SuperoperatorTheorems.{commutator-below, noise-below}
+use Rattle.term_sets.specs.Matrices.{Fits}
+use Rattle.noise_sets.specs.Pairs.{Key}
+use Rattle.open_rows.proofs.SystemTheorems.{FitsPair, commutatorHalves, noiseHalves, commutator-theorem, noise-theorem}
 use Rattle.superoperator.specs.Systems.{entryOf, SameEntries}
 use Rattle.superoperator.proofs.KnownRows.{exact-rows-known}
 

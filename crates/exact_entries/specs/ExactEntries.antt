@@ -5,14 +5,14 @@ use mathlib.Core.Path.{_≡_}
 use mathlib.Core.List.{List, map}
 use Rattle.refusal.specs.Refusals.{gives}
 use Rattle.letters.specs.Gauss.{G}
-use Rattle.rows.specs.Contributions.{pairColumn}
-use Rattle.rows.specs.Sums.{valueAt}
-use Rattle.operators.specs.Reals as reals
-use Rattle.operators.specs.declared.pauli_hamiltonian.PauliHamiltonian.{PauliHamiltonian}
-use Rattle.noise.specs.Pairs as pairs
-use Rattle.noise.specs.declared.noise_set.NoiseSet.{NoiseSet}
+use Rattle.row_entries.specs.PairColumns.{pairColumn}
+use Rattle.master_equation.specs.Sums.{valueAt}
+use Rattle.hamiltonians.specs.Reals as reals
+use Rattle.hamiltonians.specs.declared.pauli_hamiltonian.PauliHamiltonian.{PauliHamiltonian}
+use Rattle.noise_sets.specs.Pairs as pairs
+use Rattle.noise_sets.specs.declared.NoiseSet.{NoiseSet}
 use Rattle.open_system.specs.declared.PauliLindbladOpenSystem.{PauliLindbladOpenSystem}
-use Rattle.open_system.specs.ExactRows.{gaussOf, exactRow}
+use Rattle.exact_rows.specs.ExactRows.{gaussOf, exactRow}
 use Rattle.superoperator.specs.Systems.{Hamiltonian, Noise, entryOf}
 
 -- the terms of a Hamiltonian, and the pairs of noise, with their coefficients as whole numbers

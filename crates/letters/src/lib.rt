@@ -3,11 +3,12 @@
 ghost use mathlib.Core.Path.{_≡_};
 ghost use Rattle.letters.specs.Matrices.{lettersOf};
 ghost use Rattle.letters.specs.Answers.{other, saidLetter, multiplyLetters, conjugateLetter, convertLetter};
-use refusal::Refusal;
 
 pub mod single_decoherence_operator;
 pub mod single_pauli_operator;
 mod tables;
+
+use refusal::Refusal;
 
 // The highest letter code.
 pub const HIGHEST_LETTER: u8 = 3;

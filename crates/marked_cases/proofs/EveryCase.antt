@@ -10,23 +10,28 @@ use Rattle.letters.specs.Matrices.{two-by-two, pauli, decoherence, lettersOf, b
 use Rattle.letters.specs.Single.{same, scaled, asLetter, times, conjugated, converted, cell}
 use Rattle.letters.specs.Rows.{columnOf, rowPower}
 use Rattle.letters.specs.Answers.{multiplyLetters}
-use Rattle.products.specs.Lists.{support, padded, sameList}
-use Rattle.products.specs.Record.{placeValid, inShape, valid, lookup, letterAt, reach, recordOf, sameItems}
-use Rattle.products.specs.Answers.{emptyProduct, setAnswer, multiplyAnswer, conjugateAnswer, convertAnswer, rowAnswer}
-use Rattle.products.specs.Orders.{andThen, compareNumbers, compareLists, pairs, keyOf, compareItems, compareAnswer}
+use Rattle.items.specs.Lists.{support, padded, sameList}
+use Rattle.items.specs.Record.{placeValid, inShape, valid, lookup, letterAt, reach, recordOf, sameItems, emptyProduct}
+use Rattle.merging.specs.SiteAnswers.{setAnswer}
+use Rattle.merging.specs.ProductAnswers.{multiplyAnswer}
+use Rattle.phases.specs.Answers.{conjugateAnswer, convertAnswer}
+use Rattle.row_entries.specs.Answers.{rowAnswer}
+use Rattle.ordering.specs.Orders.{andThen, compareNumbers, compareLists, pairs, keyOf, compareItems, compareAnswer}
 use Rattle.terms.specs.Keyed.{has, each, concatMap}
 use Rattle.terms.specs.Places.{goodTerm, validPlaces}
-use Rattle.rows.specs.Equation.{δ, 𝟚, commutator, adjointProduct, dissipator}
-use Rattle.rows.specs.Numbers.{minusHalfUnit}
-use Rattle.rows.specs.Contributions.{operatorTerms, commutatorTerms, noiseTerms}
+use Rattle.master_equation.specs.Equation.{δ, 𝟚, commutator, adjointProduct, dissipator}
+use Rattle.rows.specs.HalfUnits.{minusHalfUnit}
+use Rattle.master_equation.specs.Contributions.{operatorTerms, commutatorTerms, noiseTerms}
 use Rattle.rows.specs.Placing.{placed, placeAll, rowOf, nonzero, keptBy, rowIn}
-use Rattle.rows.specs.Sorting.{upTo}
-use Rattle.rows.specs.Sums.{valueAt}
+use Rattle.sorting.specs.Sorting.{upTo}
+use Rattle.master_equation.specs.Sums.{valueAt}
 use Rattle.rows.specs.Calls.{outside, unlessOutside, checkedRow}
-use Rattle.operators.specs.Reals as reals
-use Rattle.open_system.specs.OperatorRows.{commutatorContributions, commutatorRowOf, hamiltonianCommutatorRow}
-use Rattle.noise.specs.Pairs as noise
-use Rattle.open_system.specs.NoiseRows.{itemsOf, noiseContributions, noiseRow}
+use Rattle.hamiltonians.specs.Reals as reals
+use Rattle.contributions.specs.TermContributions.{commutatorContributions, noiseContributions}
+use Rattle.operator_rows.specs.OperatorRows.{commutatorRowOf, hamiltonianCommutatorRow}
+use Rattle.noise_sets.specs.Pairs as noise
+use Rattle.noise_sets.specs.Pairs.{itemsOf}
+use Rattle.open_rows.specs.NoiseRows.{noiseRow}
 use Rattle.marked_cases.specs.Outcomes.{outcome}
 use Rattle.marked_cases.specs.Table.{table}
 

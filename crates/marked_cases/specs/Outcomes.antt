@@ -16,21 +16,24 @@ use Rattle.letters.specs.Matrices as two-by-two
 use Rattle.letters.specs.Answers.{other, inFloats, multiplyLetters, asComplex, asSign}
 use Rattle.letters.specs.declared.Kind.{Kind}
 use Rattle.letters.specs.declared.Kind.the-variants.{Pauli, Decoherence}
-use Rattle.products.specs.Record.{letterAt}
-use Rattle.products.specs.Answers.{setAnswer, multiplyAnswer, conjugateAnswer, convertAnswer, rowAnswer}
-use Rattle.products.specs.Orders.{Order, compareAnswer}
+use Rattle.items.specs.Record.{letterAt}
+use Rattle.merging.specs.SiteAnswers.{setAnswer}
+use Rattle.merging.specs.ProductAnswers.{multiplyAnswer}
+use Rattle.phases.specs.Answers.{conjugateAnswer, convertAnswer}
+use Rattle.row_entries.specs.Answers.{rowAnswer}
+use Rattle.ordering.specs.Orders.{Order, compareAnswer}
 use Rattle.products.specs.Kinds.{withFactor, withSign}
-use Rattle.products.specs.declared.items.Items.{Items}
-use Rattle.rows.specs.Equation.{𝟚, commutator, dissipator}
-use Rattle.rows.specs.Numbers.{halves}
-use Rattle.rows.specs.Contributions.{operatorTerms, commutatorTerms, noiseTerms}
+use Rattle.items.specs.declared.Items.{Items}
+use Rattle.master_equation.specs.Equation.{𝟚, commutator, dissipator}
+use Rattle.master_equation.specs.Numbers.{halves}
+use Rattle.master_equation.specs.Contributions.{operatorTerms, commutatorTerms, noiseTerms}
 use Rattle.rows.specs.Placing.{rowIn}
-use Rattle.rows.specs.Sorting.{upTo}
-use Rattle.operators.specs.Reals.{complexOf}
-use Rattle.operators.specs.Reals as reals
-use Rattle.open_system.specs.OperatorRows.{hamiltonianCommutatorRow}
-use Rattle.noise.specs.Pairs as pairs
-use Rattle.open_system.specs.NoiseRows as noise
+use Rattle.sorting.specs.Sorting.{upTo}
+use Rattle.hamiltonians.specs.Reals.{complexOf}
+use Rattle.hamiltonians.specs.Reals as reals
+use Rattle.operator_rows.specs.OperatorRows.{hamiltonianCommutatorRow}
+use Rattle.noise_sets.specs.Pairs as pairs
+use Rattle.open_rows.specs.NoiseRows as noise
 
 -- ---- the calls
 

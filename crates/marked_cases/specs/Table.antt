@@ -8,13 +8,13 @@ use Rattle.letters.specs.Gauss.{G, 𝟘, 𝟙, −𝟙, i⁺, i⁻, _⊗_}
 use Rattle.letters.specs.Matrices.{lettersOf}
 use Rattle.letters.specs.declared.Kind.{Kind}
 use Rattle.letters.specs.declared.Kind.the-variants.{Pauli, Decoherence}
-use Rattle.products.specs.Lists.{padded}
-use Rattle.products.specs.Record.{capacity}
-use Rattle.products.specs.Orders.{less, greater}
-use Rattle.products.specs.declared.items.Items.{Items}
-use Rattle.rows.specs.Equation.{𝟚}
-use Rattle.rows.specs.Sorting.{upTo}
-use Rattle.rows.specs.Sums.{valueAt}
+use Rattle.items.specs.Lists.{padded}
+use Rattle.items.specs.Record.{capacity}
+use Rattle.ordering.specs.Orders.{less, greater}
+use Rattle.items.specs.declared.Items.{Items}
+use Rattle.master_equation.specs.Equation.{𝟚}
+use Rattle.sorting.specs.Sorting.{upTo}
+use Rattle.master_equation.specs.Sums.{valueAt}
 use Rattle.marked_cases.specs.Outcomes as cases
 use Rattle.marked_cases.specs.Outcomes.{Input, multiplySingle, multiply, setPauli, hermitianConjugate, convert, cmp, productRow, noiseRow, commutatorRow, Outcome, f64, entriesOf, matrixOf}
 

@@ -2,8 +2,8 @@
 use mathlib.Core.List.{List}
 use Rattle.refusal.specs.Refusals.{Said, said}
 use Rattle.complex.specs.declared.Complex.{Complex}
-use Rattle.operators.specs.Answers.{saidSet}
-use Rattle.noise.specs.declared.noise_set.NoiseSet.{NoiseSet}
+use Rattle.term_sets.specs.Answers.{saidSet}
+use Rattle.noise_sets.specs.declared.NoiseSet.{NoiseSet}
 use Rattle.noise.specs.declared.pauli_noise_operator.NoiseOperatorAfterSet.{NoiseOperatorAfterSet}
 use Rattle.noise.specs.declared.pauli_noise_operator.NoiseOperatorAnswer.{NoiseOperatorAnswer}
 

@@ -1,20 +1,21 @@
 // Noise operators: pairs of decoherence products with complex rates.
 ghost use mathlib.Core.Path.{_≡_};
 ghost use mathlib.Core.List.{[]};
-ghost use Rattle.products.specs.Lists.{at};
-ghost use Rattle.operators.specs.Answers.{saidGet};
-ghost use Rattle.noise.specs.Pairs.{filled, validSet};
-ghost use Rattle.noise.specs.Answers.{getPair, setPair, addPair, addFullOperators, remapSet};
+ghost use Rattle.items.specs.Lists.{at};
+ghost use Rattle.term_sets.specs.Answers.{saidGet};
+ghost use Rattle.noise_sets.specs.Pairs.{filled, validSet};
+ghost use Rattle.noise_sets.specs.Answers.{getPair};
+ghost use Rattle.noise_chains.specs.ChainAnswers.{setPair, addPair, addFullOperators, remapSet};
 ghost use Rattle.noise.specs.Kinds.{toldNoiseSet, toldNoise};
-use crate::noise_set::NoiseSet;
 use complex::Complex;
+use items::SITE_COUNT;
+use items::Site;
+use noise_sets::NoiseSet;
 use operators::decoherence_operator::DecoherenceOperator;
-use operators::term_set::GetAnswer;
-use operators::term_set::SetAnswer;
 use products::decoherence_product::DecoherenceProduct;
-use products::items::SITE_COUNT;
-use products::items::Site;
 use refusal::Outcome;
+use term_sets::GetAnswer;
+use term_sets::SetAnswer;
 
 pub struct PauliLindbladNoiseOperator {
     pub set: NoiseSet,
@@ -35,7 +36,7 @@ impl PauliLindbladNoiseOperator {
     pub fn new() -> PauliLindbladNoiseOperator
         ensures { λ r. ⌜ r .set ≡ filled [] ⌝ }
     {
-        let set = crate::noise_set::empty_set();
+        let set = noise_sets::empty_set();
         PauliLindbladNoiseOperator { set: set }
     }
 
@@ -44,7 +45,7 @@ impl PauliLindbladNoiseOperator {
         ensures { λ r. ⌜ r ≡ validSet (self .set) ⌝ }
     {
         let s = self.set;
-        crate::noise_set::is_valid(s)
+        noise_sets::is_valid(s)
     }
 
     // The coefficient of a pair, zero where there is none.
@@ -54,7 +55,7 @@ impl PauliLindbladNoiseOperator {
         let s = self.set;
         let p = left.items;
         let q = right.items;
-        crate::noise_set::get(s, p, q)
+        noise_sets::get(s, p, q)
     }
 
     // The coefficient of a pair set; what was there before is answered.
@@ -69,7 +70,7 @@ impl PauliLindbladNoiseOperator {
         let s = self.set;
         let p = left.items;
         let q = right.items;
-        let a = crate::noise_set::set(s, p, q, value);
+        let a = noise_chains::writing::set(s, p, q, value);
         let answer = a.answer;
         let set = a.set;
         NoiseOperatorAfterSet {
@@ -90,7 +91,7 @@ impl PauliLindbladNoiseOperator {
         let s = self.set;
         let p = left.items;
         let q = right.items;
-        let a = crate::noise_set::add(s, p, q, value);
+        let a = noise_chains::writing::add(s, p, q, value);
         let outcome = a.outcome;
         let set = a.set;
         NoiseOperatorAnswer {
@@ -109,7 +110,7 @@ impl PauliLindbladNoiseOperator {
         ensures { λ r. ⌜ toldNoise r ≡ addFullOperators (self .set) (left .terms) (right .terms) value ⌝ }
     {
         let s = self.set;
-        let a = crate::full::add_full(s, left, right, value);
+        let a = noise_chains::full::add_full(s, left, right, value);
         let outcome = a.outcome;
         let set = a.set;
         NoiseOperatorAnswer {
@@ -123,7 +124,7 @@ impl PauliLindbladNoiseOperator {
         ensures { λ r. ⌜ toldNoise r ≡ remapSet (at targets) (self .set) ⌝ }
     {
         let s = self.set;
-        let a = crate::remap::remap_qubits(s, targets);
+        let a = noise_chains::remap::remap_qubits(s, targets);
         let outcome = a.outcome;
         let set = a.set;
         NoiseOperatorAnswer {

@@ -4,14 +4,13 @@ use mathlib.Core.Path.{_≡_, ap}
 use mathlib.Core.Bool.{true}
 use Rattle.refusal.specs.Refusals.{Said, done, outcome-known}
 use Rattle.terms.proofs.AnswerLaws.{Answered, answered-past, answered-given}
-use Rattle.operators.specs.Reals as reals
-use Rattle.operators.specs.declared.pauli_hamiltonian.PauliHamiltonian.{PauliHamiltonian}
-use Rattle.operators.proofs.RealValidLaws as real-laws
-use Rattle.noise.specs.Pairs as pairs
+use Rattle.hamiltonians.specs.Reals as reals
+use Rattle.hamiltonians.specs.declared.pauli_hamiltonian.PauliHamiltonian.{PauliHamiltonian}
+use Rattle.hamiltonians.proofs.RealValidLaws as real-laws
+use Rattle.noise_sets.specs.Pairs as pairs
 use Rattle.noise.specs.declared.pauli_noise_operator.PauliLindbladNoiseOperator.{PauliLindbladNoiseOperator}
-use Rattle.noise.proofs.ValidLaws as pair-laws
-use Rattle.open_system.specs.OpenRows.{validSystem}
-use Rattle.open_system.specs.Grouping.{emptySystem, groupAnswer, toldSystem}
+use Rattle.noise_sets.proofs.ValidLaws as pair-laws
+use Rattle.open_system.specs.Grouping.{validSystem, emptySystem, groupAnswer, toldSystem}
 use Rattle.open_system.specs.declared.PauliLindbladOpenSystem.{PauliLindbladOpenSystem}
 use Rattle.open_system.specs.declared.OpenSystemAnswer.{OpenSystemAnswer}
 

@@ -1,13 +1,2 @@
-pub mod EntryLaws
-pub mod OutsideLaws
-pub mod AcceptedLaws
-pub mod JudgingLaws
-pub mod WritingLaws
-pub mod MaskedLaws
-pub mod HandedLaws
-pub mod CoefficientLaws
-pub mod ExactWritingLaws
-pub mod SystemRowLaws
-pub mod SystemTheorems
-pub mod DeliveredColumns
 pub mod GroupingLaws
+pub mod JudgedLaws

@@ -1,10 +1,10 @@
 -- A Hamiltonian and a noise operator as an open system. Document 01, pauli_open_system.rs: `group`, and number 0.
-use mathlib.Core.Bool.{not, cond}
+use mathlib.Core.Bool.{not, cond, Bool, false}
 use mathlib.Core.List.{[]}
 use Rattle.refusal.specs.Refusals.{Said, refuses, done, said}
-use Rattle.operators.specs.Reals as reals
-use Rattle.operators.specs.declared.pauli_hamiltonian.PauliHamiltonian.{PauliHamiltonian}
-use Rattle.noise.specs.Pairs as pairs
+use Rattle.hamiltonians.specs.Reals as reals
+use Rattle.hamiltonians.specs.declared.pauli_hamiltonian.PauliHamiltonian.{PauliHamiltonian}
+use Rattle.noise_sets.specs.Pairs as pairs
 use Rattle.noise.specs.declared.pauli_noise_operator.PauliLindbladNoiseOperator.{PauliLindbladNoiseOperator}
 use Rattle.open_system.specs.declared.PauliLindbladOpenSystem.{PauliLindbladOpenSystem}
 use Rattle.open_system.specs.declared.OpenSystemAnswer.{OpenSystemAnswer}
@@ -26,3 +26,7 @@ groupAnswer h w =
 
 abbrev pub toldSystem : OpenSystemAnswer → Said Unit × PauliLindbladOpenSystem
 toldSystem r = (said (r .outcome), r .system)
+
+-- number 0 lets both sets pass
+unfoldable pub validSystem : PauliLindbladOpenSystem → Bool
+validSystem s = cond (reals.validSet (s .system)) (pairs.validSet (s .noise .set)) false

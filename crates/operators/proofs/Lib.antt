@@ -1,13 +1,1 @@
-pub mod SetLaws
-pub mod ValidLaws
-pub mod ChainLaws
-pub mod GatherLaws
-pub mod OperatorTheorems
-pub mod RealSetLaws
-pub mod RealValidLaws
-pub mod CopyLaws
-pub mod ValidAnswers
-pub mod RealValidAnswers
-pub mod MaskLaws
-pub mod HamiltonianTheorems
-pub mod ReadingLaws
+pub mod KindReadingLaws

@@ -2,8 +2,8 @@
 use mathlib.Core.List.{List}
 use Rattle.refusal.specs.Refusals.{Said, said}
 use Rattle.complex.specs.declared.Complex.{Complex}
-use Rattle.operators.specs.Answers.{saidSet}
-use Rattle.operators.specs.declared.term_set.TermSet.{TermSet}
+use Rattle.term_sets.specs.Answers.{saidSet}
+use Rattle.term_sets.specs.declared.TermSet.{TermSet}
 use Rattle.operators.specs.declared.pauli_operator.PauliOperatorAfterSet.{PauliOperatorAfterSet}
 use Rattle.operators.specs.declared.pauli_operator.PauliOperatorAnswer.{PauliOperatorAnswer}
 use Rattle.operators.specs.declared.decoherence_operator.DecoherenceOperatorAfterSet.{DecoherenceOperatorAfterSet}

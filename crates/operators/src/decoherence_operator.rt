@@ -3,17 +3,18 @@ ghost use mathlib.Core.Path.{_≡_};
 ghost use mathlib.Core.Bool.{true, false};
 ghost use mathlib.Core.List.{[]};
 ghost use Rattle.letters.specs.Matrices.{pauli, decoherence};
-ghost use Rattle.operators.specs.Complexes.{filled, validSet};
-ghost use Rattle.operators.specs.Answers.{saidGet, getTerm, setTerm, addTerm, multiplySets, conjugateSet, convertSet};
+ghost use Rattle.term_sets.specs.Complexes.{filled, validSet};
+ghost use Rattle.term_sets.specs.Answers.{saidGet, getTerm};
+ghost use Rattle.chains.specs.ChainAnswers.{setTerm, addTerm, multiplySets, conjugateSet, convertSet};
 ghost use Rattle.operators.specs.Kinds.{toldDecoherenceSet, toldDecoherence};
 use crate::pauli_operator::PauliOperator;
-use crate::term_set::GetAnswer;
-use crate::term_set::SetAnswer;
-use crate::term_set::TermSet;
 use complex::Complex;
 use letters::Kind;
 use products::decoherence_product::DecoherenceProduct;
 use refusal::Outcome;
+use term_sets::GetAnswer;
+use term_sets::SetAnswer;
+use term_sets::TermSet;
 
 pub struct DecoherenceOperator {
     pub terms: TermSet,
@@ -34,7 +35,7 @@ impl DecoherenceOperator {
     pub fn new() -> DecoherenceOperator
         ensures { λ r. ⌜ r .terms ≡ filled [] ⌝ }
     {
-        let terms = crate::term_set::empty_set();
+        let terms = term_sets::empty_set();
         DecoherenceOperator { terms: terms }
     }
 
@@ -43,7 +44,7 @@ impl DecoherenceOperator {
         ensures { λ r. ⌜ r ≡ validSet false (self .terms) ⌝ }
     {
         let s = self.terms;
-        crate::term_set::is_valid(false, s)
+        term_sets::is_valid(false, s)
     }
 
     // The coefficient of a product, zero where there is none.
@@ -52,7 +53,7 @@ impl DecoherenceOperator {
     {
         let s = self.terms;
         let k = key.items;
-        crate::term_set::get(false, s, k)
+        term_sets::get(false, s, k)
     }
 
     // The coefficient of a product set; what was there before is answered.
@@ -61,7 +62,7 @@ impl DecoherenceOperator {
     {
         let s = self.terms;
         let k = key.items;
-        let a = crate::term_set::set(false, s, k, value);
+        let a = chains::writing::set(false, s, k, value);
         let answer = a.answer;
         let set = a.set;
         DecoherenceOperatorAfterSet {
@@ -80,7 +81,7 @@ impl DecoherenceOperator {
     {
         let s = self.terms;
         let k = key.items;
-        let a = crate::term_set::add(false, s, k, value);
+        let a = chains::writing::add(false, s, k, value);
         let outcome = a.outcome;
         let set = a.set;
         DecoherenceOperatorAnswer {
@@ -95,7 +96,7 @@ impl DecoherenceOperator {
     {
         let s = self.terms;
         let t = right.terms;
-        let a = crate::chain::multiply(Kind::Decoherence, false, s, t);
+        let a = chains::chain::multiply(Kind::Decoherence, false, s, t);
         let outcome = a.outcome;
         let set = a.set;
         DecoherenceOperatorAnswer {
@@ -109,7 +110,7 @@ impl DecoherenceOperator {
         ensures { λ r. ⌜ toldDecoherence r ≡ conjugateSet decoherence false (self .terms) ⌝ }
     {
         let s = self.terms;
-        let a = crate::chain::conjugate(Kind::Decoherence, false, s);
+        let a = chains::chain::conjugate(Kind::Decoherence, false, s);
         let outcome = a.outcome;
         let set = a.set;
         DecoherenceOperatorAnswer {
@@ -123,7 +124,7 @@ impl DecoherenceOperator {
         ensures { λ r. ⌜ toldDecoherence r ≡ convertSet pauli decoherence true (operator .terms) ⌝ }
     {
         let s = operator.terms;
-        let a = crate::chain::convert(Kind::Pauli, true, s);
+        let a = chains::chain::convert(Kind::Pauli, true, s);
         let outcome = a.outcome;
         let set = a.set;
         DecoherenceOperatorAnswer {

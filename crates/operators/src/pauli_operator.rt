@@ -3,18 +3,19 @@ ghost use mathlib.Core.Path.{_≡_};
 ghost use mathlib.Core.Bool.{true};
 ghost use mathlib.Core.List.{[]};
 ghost use Rattle.letters.specs.Matrices.{pauli};
-ghost use Rattle.operators.specs.Complexes.{filled, validSet};
-ghost use Rattle.operators.specs.Answers.{saidGet, getTerm, setTerm, addTerm, multiplySets, conjugateSet, scaleSet};
-ghost use Rattle.operators.specs.RealAnswers.{multiplyReals, intoOperator};
+ghost use Rattle.term_sets.specs.Complexes.{filled, validSet};
+ghost use Rattle.term_sets.specs.Answers.{saidGet, getTerm};
+ghost use Rattle.chains.specs.ChainAnswers.{setTerm, addTerm, multiplySets, conjugateSet, scaleSet};
+ghost use Rattle.chains.specs.HamiltonianProducts.{multiplyReals, intoOperator};
 ghost use Rattle.operators.specs.Kinds.{toldPauliSet, toldPauli};
-use crate::pauli_hamiltonian::PauliHamiltonian;
-use crate::term_set::GetAnswer;
-use crate::term_set::SetAnswer;
-use crate::term_set::TermSet;
 use complex::Complex;
+use hamiltonians::pauli_hamiltonian::PauliHamiltonian;
 use letters::Kind;
 use products::pauli_product::PauliProduct;
 use refusal::Outcome;
+use term_sets::GetAnswer;
+use term_sets::SetAnswer;
+use term_sets::TermSet;
 
 pub struct PauliOperator {
     pub terms: TermSet,
@@ -35,7 +36,7 @@ impl PauliOperator {
     pub fn new() -> PauliOperator
         ensures { λ r. ⌜ r .terms ≡ filled [] ⌝ }
     {
-        let terms = crate::term_set::empty_set();
+        let terms = term_sets::empty_set();
         PauliOperator { terms: terms }
     }
 
@@ -44,7 +45,7 @@ impl PauliOperator {
         ensures { λ r. ⌜ r ≡ validSet true (self .terms) ⌝ }
     {
         let s = self.terms;
-        crate::term_set::is_valid(true, s)
+        term_sets::is_valid(true, s)
     }
 
     // The coefficient of a product, zero where there is none.
@@ -53,7 +54,7 @@ impl PauliOperator {
     {
         let s = self.terms;
         let k = key.items;
-        crate::term_set::get(true, s, k)
+        term_sets::get(true, s, k)
     }
 
     // The coefficient of a product set; what was there before is answered.
@@ -62,7 +63,7 @@ impl PauliOperator {
     {
         let s = self.terms;
         let k = key.items;
-        let a = crate::term_set::set(true, s, k, value);
+        let a = chains::writing::set(true, s, k, value);
         let answer = a.answer;
         let set = a.set;
         PauliOperatorAfterSet {
@@ -77,7 +78,7 @@ impl PauliOperator {
     {
         let s = self.terms;
         let k = key.items;
-        let a = crate::term_set::add(true, s, k, value);
+        let a = chains::writing::add(true, s, k, value);
         let outcome = a.outcome;
         let set = a.set;
         PauliOperatorAnswer {
@@ -92,7 +93,7 @@ impl PauliOperator {
     {
         let s = self.terms;
         let t = right.terms;
-        let a = crate::chain::multiply(Kind::Pauli, true, s, t);
+        let a = chains::chain::multiply(Kind::Pauli, true, s, t);
         let outcome = a.outcome;
         let set = a.set;
         PauliOperatorAnswer {
@@ -106,7 +107,7 @@ impl PauliOperator {
         ensures { λ r. ⌜ toldPauli r ≡ conjugateSet pauli true (self .terms) ⌝ }
     {
         let s = self.terms;
-        let a = crate::chain::conjugate(Kind::Pauli, true, s);
+        let a = chains::chain::conjugate(Kind::Pauli, true, s);
         let outcome = a.outcome;
         let set = a.set;
         PauliOperatorAnswer {
@@ -120,7 +121,7 @@ impl PauliOperator {
         ensures { λ r. ⌜ toldPauli r ≡ scaleSet (self .terms) value ⌝ }
     {
         let s = self.terms;
-        let a = crate::chain::scale(s, value);
+        let a = chains::chain::scale(s, value);
         let outcome = a.outcome;
         let set = a.set;
         PauliOperatorAnswer {
@@ -133,7 +134,7 @@ impl PauliOperator {
     pub fn from_hamiltonian(hamiltonian: PauliHamiltonian) -> PauliOperatorAnswer
         ensures { λ r. ⌜ toldPauli r ≡ intoOperator hamiltonian ⌝ }
     {
-        let a = crate::hamiltonian_product::convert(hamiltonian);
+        let a = chains::hamiltonian_product::convert(hamiltonian);
         let outcome = a.outcome;
         let set = a.set;
         PauliOperatorAnswer {
@@ -146,7 +147,7 @@ impl PauliOperator {
     pub fn from_hamiltonians(left: PauliHamiltonian, right: PauliHamiltonian) -> PauliOperatorAnswer
         ensures { λ r. ⌜ toldPauli r ≡ multiplyReals left right ⌝ }
     {
-        let a = crate::hamiltonian_product::multiply(left, right);
+        let a = chains::hamiltonian_product::multiply(left, right);
         let outcome = a.outcome;
         let set = a.set;
         PauliOperatorAnswer {

@@ -10,10 +10,11 @@ use Rattle.letters.specs.Sums.{total}
 use Rattle.letters.specs.Tests.{every, firstFrom}
 use Rattle.letters.specs.Matrices.{two-by-two, pauli, product}
 use Rattle.letters.specs.Single.{same, scaled, asLetter, times}
-use Rattle.products.specs.Lists.{at, support, padded}
-use Rattle.products.specs.Record.{placeValid, inShape, valid, lookup, letterAt, reach, recordOf}
-use Rattle.products.specs.Answers.{setAnswer, multiplyAnswer, firstOccupied, concatenateAnswer}
-use Rattle.products.specs.declared.items.Items.{Items}
+use Rattle.items.specs.Lists.{at, support, padded}
+use Rattle.items.specs.Record.{placeValid, inShape, valid, lookup, letterAt, reach, recordOf}
+use Rattle.merging.specs.SiteAnswers.{setAnswer}
+use Rattle.merging.specs.ProductAnswers.{multiplyAnswer, firstOccupied, concatenateAnswer}
+use Rattle.items.specs.declared.Items.{Items}
 
 -- the record with the listed letters on sites 0, 1, ..
 abbrev pub product-of : List ℕ → Items

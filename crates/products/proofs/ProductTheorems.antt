@@ -22,14 +22,17 @@ use Rattle.letters.proofs.TestLaws.{first-before}
 use Rattle.letters.proofs.TableLaws.{closed, converts}
 use Rattle.letters.proofs.Letterings.{matrix-same, multiply-matrix, conjugate-matrix, convert-matrix, join-matrix, row-matrix, columnOf-lt, HasIdentity}
 use Rattle.letters.proofs.Codes.{conjugated-plain, converted-plain}
-use Rattle.products.specs.Lists.{at, larger}
-use Rattle.products.specs.Record.{highestSite, valid, letterAt, reach, reachOf, recordOf, update}
-use Rattle.products.specs.Answers.{setAnswer, multiplyAnswer, firstOccupied, concatenateAnswer, conjugateAnswer, convertAnswer, rowAnswer, mostSpins, emptyProduct}
-use Rattle.products.specs.declared.items.Items.{Items}
-use Rattle.products.proofs.ListLaws.{larger-left, larger-right, larger-most}
-use Rattle.products.proofs.RecordLaws.{letter-code, letter-beyond, letter-occupied, reach-most}
-use Rattle.products.proofs.Canonical.{fits-span, record-valid, record-letters, record-beyond}
-use Rattle.products.proofs.Cursor.{total-above}
+use Rattle.items.specs.Lists.{at, larger}
+use Rattle.items.specs.Record.{highestSite, valid, letterAt, reach, reachOf, recordOf, update, emptyProduct}
+use Rattle.merging.specs.SiteAnswers.{setAnswer}
+use Rattle.merging.specs.ProductAnswers.{multiplyAnswer, firstOccupied, concatenateAnswer}
+use Rattle.phases.specs.Answers.{conjugateAnswer, convertAnswer}
+use Rattle.row_entries.specs.Answers.{rowAnswer, mostSpins}
+use Rattle.items.specs.declared.Items.{Items}
+use Rattle.items.proofs.ListLaws.{larger-left, larger-right, larger-most}
+use Rattle.items.proofs.RecordLaws.{letter-code, letter-beyond, letter-occupied, reach-most}
+use Rattle.items.proofs.Canonical.{fits-span, record-valid, record-letters, record-beyond}
+use Rattle.items.proofs.Cursor.{total-above}
 
 -- an answer that is given passed the refusal before it
 given-past : {A : Type 0} (b : Bool) (k : ℕ) (l : List ℕ) (y : A) (z : Said A) → cond b (refuses k l) z ≡ gives y → (b ≡ false) × (z ≡ gives y)

@@ -4,14 +4,16 @@ use mathlib.Core.List.{List, [], _∷_}
 use Prim.Native.Nat.{ℕ}
 use Rattle.refusal.specs.Refusals.{refusal-is, answerOf, reading-known, outcome-known}
 use Rattle.complex.specs.declared.Complex.{Complex}
-use Rattle.products.specs.Answers.{saidGot, saidRow, told, toldPower}
-use Rattle.products.specs.Orders.{Order, less, equal, greater, saidOrder}
+use Rattle.merging.specs.SiteAnswers.{saidGot}
+use Rattle.row_entries.specs.Answers.{saidRow}
+use Rattle.items.specs.Answers.{told, toldPower}
+use Rattle.ordering.specs.Orders.{Order, less, equal, greater, saidOrder}
 use Rattle.products.specs.Kinds.{toldPauli, toldPauliFactor, toldPauliSign, toldDecoherence, toldFactor, toldSign, saidProductRow}
-use Rattle.products.specs.declared.items.ItemsAnswer.{ItemsAnswer}
-use Rattle.products.specs.declared.items.ItemsWithPower.{ItemsWithPower}
-use Rattle.products.specs.declared.items.Got.{Got}
-use Rattle.products.specs.declared.items.ItemsRow.{ItemsRow}
-use Rattle.products.specs.declared.items.Compared.{Compared}
+use Rattle.items.specs.declared.ItemsAnswer.{ItemsAnswer}
+use Rattle.items.specs.declared.ItemsWithPower.{ItemsWithPower}
+use Rattle.items.specs.declared.Got.{Got}
+use Rattle.row_entries.specs.declared.ItemsRow.{ItemsRow}
+use Rattle.ordering.specs.declared.Compared.{Compared}
 use Rattle.products.specs.declared.pauli_product.PauliAnswer.{PauliAnswer}
 use Rattle.products.specs.declared.pauli_product.PauliWithFactor.{PauliWithFactor}
 use Rattle.products.specs.declared.pauli_product.PauliWithSign.{PauliWithSign}

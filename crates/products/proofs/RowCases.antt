@@ -8,10 +8,10 @@ use Rattle.refusal.specs.Refusals.{refuses}
 use Rattle.letters.specs.Tests.{every}
 use Rattle.letters.specs.Matrices.{lettersOf}
 use Rattle.letters.specs.declared.Kind.the-variants.{Pauli, Decoherence}
-use Rattle.products.specs.Lists.{padded}
-use Rattle.products.specs.Record.{capacity, placeValid, inShape, valid, reach}
-use Rattle.products.specs.Answers.{rowAnswer}
-use Rattle.products.specs.declared.items.Items.{Items}
+use Rattle.items.specs.Lists.{padded}
+use Rattle.items.specs.Record.{capacity, placeValid, inShape, valid, reach}
+use Rattle.row_entries.specs.Answers.{rowAnswer}
+use Rattle.items.specs.declared.Items.{Items}
 
 -- the record with these sites and letters
 abbrev pub product : List ℕ → List ℕ → Items

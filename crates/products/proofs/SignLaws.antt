@@ -1,6 +1,6 @@
 -- The factors of products, for every record: "Factors are +1 or -1 except in conversions", and the whole answer of a conjugation, which keeps the letters:
 -- of a decoherence product "its sign is -1 for an odd number of iY", of a Pauli product it is 1. Assumes nothing.
-use mathlib.Core.Path.{_≡_, refl, ap, ap₂, _∙_}
+use mathlib.Core.Path.{_≡_, refl, ap, _∙_}
 use mathlib.Core.Bool.{Bool, true, false, not, cond}
 use Prim.Native.Nat.{ℕ, zero, suc, _+_, _*_, _%_, _<_}
 use native.Mathlib.Omega.{arith}
@@ -14,15 +14,14 @@ use Rattle.letters.specs.Matrices.{pauli, decoherence, lettersOf}
 use Rattle.letters.specs.Single.{powerOf, times, conjugated}
 use Rattle.letters.specs.declared.Kind.{Kind}
 use Rattle.letters.specs.declared.Kind.the-variants.{Pauli, Decoherence}
-use Rattle.letters.proofs.SumLaws.{total-cong-below}
 use Rattle.letters.proofs.FactorLaws.{times-even, conjugatePower, conjugated-power}
-use Rattle.products.specs.Record.{valid, letterAt, reach, reachOf}
-use Rattle.products.specs.Answers.{multiplyAnswer, conjugateAnswer}
+use Rattle.items.specs.Record.{valid, letterAt, reach, reachOf}
+use Rattle.merging.specs.ProductAnswers.{multiplyAnswer}
+use Rattle.phases.specs.Answers.{conjugateAnswer}
 use Rattle.products.specs.Kinds.{withFactor, withSign}
-use Rattle.products.specs.declared.items.Items.{Items}
-use Rattle.products.specs.declared.change.Change.the-variants.{Conjugate}
-use Rattle.products.proofs.RecordLaws.{letter-code}
-use Rattle.products.proofs.ChangeLaws.{changed-record}
+use Rattle.items.specs.declared.Items.{Items}
+use Rattle.items.proofs.RecordLaws.{letter-code}
+use Rattle.phases.proofs.ConjugateLaws.{countOfY, decoherence-conjugate, pauli-conjugate}
 
 -- an answer of a product with its power of i
 abbrev WithPower : Type 0
@@ -60,49 +59,6 @@ multiply-even p q =
 -- so the factor answered is +1 or -1
 pub multiply-factor : (p q : Items) → PlusOrMinusOne (withFactor (multiplyAnswer decoherence p q) .1 .0)
 multiply-factor p q = even-unit _ (multiply-even p q)
-
--- ---- conjugates
-
--- the number of sites with the letter 2: Y, or iY
-abbrev pub countOfY : Items → ℕ
-countOfY p = total (λ s. cond (eqb (letterAt p s) 2) 1 0) (reach p)
-
--- the same power at each place that passes a test
-total-test : (m : ℕ) (f : ℕ → Bool) (n : ℕ) → total (λ s. cond (f s) m 0) n ≡ m * total (λ s. cond (f s) 1 0) n
-unfolding total
-total-test m f zero = omega arith
-total-test m f (suc n) = go (f n) _ _ (total-test m f n)
-  where
-    go : (b : Bool) (x y : ℕ) → x ≡ m * y → x + cond b m 0 ≡ m * (y + cond b 1 0)
-    go true x y e = omega arith
-    go false x y e = omega arith
-
--- of either kind: the product itself, and a power for each letter 2
-conjugate-whole : (kind : Kind) (p : Items) → valid p ≡ true → conjugateAnswer (lettersOf kind) p ≡ (done, (conjugatePower kind * countOfY p % 4, p))
-unfolding conjugateAnswer
-conjugate-whole kind p v =
-    rw v
-    (ap₂ (λ k q. (done, (k % 4, q)))
-    (total-cong-below (reach p) (λ s. powerOf (conjugated (lettersOf kind) (letterAt p s))) (λ s. cond (eqb (letterAt p s) 2) (conjugatePower kind) 0)
-    (λ s h. conjugated-power kind (letterAt p s) (omega (arith, letter-code p v s)))
-    ∙ total-test (conjugatePower kind) (λ s. eqb (letterAt p s) 2) (reach p))
-    (changed-record (Conjugate kind) p v))
-
--- "its sign is -1 for an odd number of iY": i to the power 2 where the number is odd, 0 where it is even
-pub decoherence-conjugate : (p : Items) → valid p ≡ true → conjugateAnswer decoherence p ≡ (done, (2 * (countOfY p % 2), p))
-unfolding lettersOf
-decoherence-conjugate p v = conjugate-whole Decoherence p v ∙ ap (λ k. (done, (k, p))) (go (countOfY p))
-  where
-    go : (c : ℕ) → 2 * c % 4 ≡ 2 * (c % 2)
-    go c = omega arith
-
--- a Pauli product is its own conjugate
-pub pauli-conjugate : (p : Items) → valid p ≡ true → conjugateAnswer pauli p ≡ (done, (0, p))
-unfolding lettersOf
-pauli-conjugate p v = conjugate-whole Pauli p v ∙ ap (λ k. (done, (k, p))) (go (countOfY p))
-  where
-    go : (c : ℕ) → 0 * c % 4 ≡ 0
-    go c = omega arith
 
 -- the same as answered, with the sign as an f64
 pub decoherence-conjugate-sign : (p : Items) → valid p ≡ true

@@ -4,7 +4,7 @@ use lib.Ieee.{Float}
 use Rattle.refusal.specs.Refusals.{Said, gives, refuses, said, number, siteOf}
 use Rattle.complex.specs.Complex.{unitOfI}
 use Rattle.complex.specs.declared.Complex.{Complex}
-use Rattle.products.specs.declared.items.Items.{Items}
+use Rattle.items.specs.declared.Items.{Items}
 use Rattle.products.specs.declared.pauli_product.PauliAnswer.{PauliAnswer}
 use Rattle.products.specs.declared.pauli_product.PauliWithFactor.{PauliWithFactor}
 use Rattle.products.specs.declared.pauli_product.PauliWithSign.{PauliWithSign}

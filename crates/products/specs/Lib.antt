@@ -1,10 +1,1 @@
-pub mod Lists
-pub mod Record
-pub mod Masks
-pub mod Verdicts
-pub mod Walks
-pub mod Answers
-pub mod Orders
 pub mod Kinds
-pub mod Steps
-pub mod Changes

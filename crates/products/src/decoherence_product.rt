@@ -3,22 +3,27 @@ ghost use mathlib.Core.Path.{_≡_};
 ghost use Rattle.letters.specs.Matrices.{pauli, decoherence};
 ghost use Rattle.letters.specs.Answers.{asComplex};
 ghost use Rattle.letters.specs.declared.Kind.the-variants.{Decoherence};
-ghost use Rattle.products.specs.Lists.{at};
-ghost use Rattle.products.specs.Answers.{emptyProduct, saidGot, getAnswer, setAnswer, multiplyAnswer, concatenateAnswer, remapAnswer, conjugateAnswer, convertAnswer, rowAnswer};
-ghost use Rattle.products.specs.Orders.{saidOrder, compareAnswer};
+ghost use Rattle.items.specs.Lists.{at};
+ghost use Rattle.items.specs.Record.{emptyProduct};
+ghost use Rattle.merging.specs.SiteAnswers.{saidGot, getAnswer, setAnswer};
+ghost use Rattle.merging.specs.ProductAnswers.{multiplyAnswer, concatenateAnswer};
+ghost use Rattle.merging.specs.Targets.{remapAnswer};
+ghost use Rattle.phases.specs.Answers.{conjugateAnswer, convertAnswer};
+ghost use Rattle.row_entries.specs.Answers.{rowAnswer};
+ghost use Rattle.ordering.specs.Orders.{saidOrder, compareAnswer};
 ghost use Rattle.products.specs.Kinds.{toldDecoherence, toldFactor, toldSign, toldPauliFactor, saidProductRow, withFactor, withSign};
-use crate::items::Compared;
-use crate::items::Got;
-use crate::items::Items;
-use crate::items::ItemsRow;
-use crate::items::SITE_COUNT;
-use crate::items::Site;
 use crate::pauli_product::PauliProduct;
 use crate::pauli_product::PauliWithFactor;
 use complex::Complex;
+use items::Got;
+use items::Items;
+use items::SITE_COUNT;
+use items::Site;
 use letters::Kind;
+use ordering::Compared;
 use refusal::Outcome;
 use refusal::Refusal;
+use row_entries::ItemsRow;
 
 pub struct DecoherenceProduct {
     pub items: Items,
@@ -52,7 +57,7 @@ impl DecoherenceProduct {
     pub fn new() -> DecoherenceProduct
         ensures { λ r. ⌜ r .items ≡ emptyProduct ⌝ }
     {
-        let items = crate::items::empty();
+        let items = items::empty();
         DecoherenceProduct { items: items }
     }
 
@@ -61,7 +66,7 @@ impl DecoherenceProduct {
         ensures { λ r. ⌜ saidGot r ≡ getAnswer (self .items) site ⌝ }
     {
         let p = self.items;
-        crate::put::get(p, site)
+        merging::put::get(p, site)
     }
 
     // The product with a letter on a site; the identity frees it.
@@ -69,7 +74,7 @@ impl DecoherenceProduct {
         ensures { λ r. ⌜ toldDecoherence r ≡ setAnswer (self .items) site letter ⌝ }
     {
         let p = self.items;
-        let a = crate::put::set_pauli(p, site, letter);
+        let a = merging::put::set_pauli(p, site, letter);
         let outcome = a.outcome;
         let items = a.items;
         DecoherenceAnswer {
@@ -84,7 +89,7 @@ impl DecoherenceProduct {
     {
         let p = self.items;
         let q = right.items;
-        let a = crate::multiply::multiply(Kind::Decoherence, p, q);
+        let a = merging::multiply::multiply(Kind::Decoherence, p, q);
         let outcome = a.outcome;
         let items = a.items;
         let factor = complex::unit_of_i(a.power);
@@ -101,7 +106,7 @@ impl DecoherenceProduct {
     {
         let p = self.items;
         let q = other.items;
-        let a = crate::multiply::concatenate(p, q);
+        let a = merging::multiply::concatenate(p, q);
         let outcome = a.outcome;
         let items = a.items;
         DecoherenceAnswer {
@@ -115,7 +120,7 @@ impl DecoherenceProduct {
         ensures { λ r. ⌜ toldDecoherence r ≡ remapAnswer (at targets) (self .items) ⌝ }
     {
         let p = self.items;
-        let a = crate::remap::remap_qubits(p, targets);
+        let a = merging::remap::remap_qubits(p, targets);
         let outcome = a.outcome;
         let items = a.items;
         DecoherenceAnswer {
@@ -130,7 +135,7 @@ impl DecoherenceProduct {
     {
         let p = self.items;
         let q = other.items;
-        crate::order::compare(Kind::Decoherence, p, q)
+        ordering::compare(Kind::Decoherence, p, q)
     }
 
     // The conjugate transpose: the product itself, with the factor -1 for an odd number of iY.
@@ -138,7 +143,7 @@ impl DecoherenceProduct {
         ensures { λ r. ⌜ toldSign r ≡ withSign (conjugateAnswer decoherence (self .items)) ⌝ }
     {
         let p = self.items;
-        let a = crate::change::conjugate(Kind::Decoherence, p);
+        let a = phases::conjugate(Kind::Decoherence, p);
         let outcome = a.outcome;
         let items = a.items;
         let factor = complex::unit_of_i(a.power);
@@ -154,7 +159,7 @@ impl DecoherenceProduct {
         ensures { λ r. ⌜ toldPauliFactor r ≡ withFactor (convertAnswer decoherence pauli (self .items)) ⌝ }
     {
         let p = self.items;
-        let a = crate::change::convert(Kind::Decoherence, p);
+        let a = phases::convert(Kind::Decoherence, p);
         let outcome = a.outcome;
         let items = a.items;
         let factor = complex::unit_of_i(a.power);
@@ -170,7 +175,7 @@ impl DecoherenceProduct {
         ensures { λ r. ⌜ toldFactor r ≡ withFactor (convertAnswer pauli decoherence (product .items)) ⌝ }
     {
         let p = product.items;
-        let a = crate::change::convert(Kind::Pauli, p);
+        let a = phases::convert(Kind::Pauli, p);
         let outcome = a.outcome;
         let items = a.items;
         let factor = complex::unit_of_i(a.power);
@@ -186,7 +191,7 @@ impl DecoherenceProduct {
         ensures { λ r. ⌜ saidProductRow r ≡ asComplex (rowAnswer decoherence (self .items) spins row) ⌝ }
     {
         let p = self.items;
-        match crate::row::row(Kind::Decoherence, p, spins, row) {
+        match row_entries::row(Kind::Decoherence, p, spins, row) {
             ItemsRow::Entry(column, power) => ProductRow::Entry(column, complex::unit_of_i(power)),
             ItemsRow::Refused(why) => ProductRow::Refused(why),
         }

@@ -2,17 +2,21 @@
 ghost use mathlib.Core.Path.{_≡_};
 ghost use Rattle.letters.specs.Matrices.{pauli};
 ghost use Rattle.letters.specs.declared.Kind.the-variants.{Pauli};
-ghost use Rattle.products.specs.Lists.{at};
-ghost use Rattle.products.specs.Answers.{emptyProduct, saidGot, getAnswer, setAnswer, multiplyAnswer, concatenateAnswer, remapAnswer, conjugateAnswer};
-ghost use Rattle.products.specs.Orders.{saidOrder, compareAnswer};
+ghost use Rattle.items.specs.Lists.{at};
+ghost use Rattle.items.specs.Record.{emptyProduct};
+ghost use Rattle.merging.specs.SiteAnswers.{saidGot, getAnswer, setAnswer};
+ghost use Rattle.merging.specs.ProductAnswers.{multiplyAnswer, concatenateAnswer};
+ghost use Rattle.merging.specs.Targets.{remapAnswer};
+ghost use Rattle.phases.specs.Answers.{conjugateAnswer};
+ghost use Rattle.ordering.specs.Orders.{saidOrder, compareAnswer};
 ghost use Rattle.products.specs.Kinds.{toldPauli, toldPauliFactor, toldPauliSign, withFactor, withSign};
-use crate::items::Compared;
-use crate::items::Got;
-use crate::items::Items;
-use crate::items::SITE_COUNT;
-use crate::items::Site;
 use complex::Complex;
+use items::Got;
+use items::Items;
+use items::SITE_COUNT;
+use items::Site;
 use letters::Kind;
+use ordering::Compared;
 use refusal::Outcome;
 
 pub struct PauliProduct {
@@ -41,7 +45,7 @@ impl PauliProduct {
     pub fn new() -> PauliProduct
         ensures { λ r. ⌜ r .items ≡ emptyProduct ⌝ }
     {
-        let items = crate::items::empty();
+        let items = items::empty();
         PauliProduct { items: items }
     }
 
@@ -50,7 +54,7 @@ impl PauliProduct {
         ensures { λ r. ⌜ saidGot r ≡ getAnswer (self .items) site ⌝ }
     {
         let p = self.items;
-        crate::put::get(p, site)
+        merging::put::get(p, site)
     }
 
     // The product with a letter on a site; the identity frees it.
@@ -58,7 +62,7 @@ impl PauliProduct {
         ensures { λ r. ⌜ toldPauli r ≡ setAnswer (self .items) site letter ⌝ }
     {
         let p = self.items;
-        let a = crate::put::set_pauli(p, site, letter);
+        let a = merging::put::set_pauli(p, site, letter);
         let outcome = a.outcome;
         let items = a.items;
         PauliAnswer {
@@ -73,7 +77,7 @@ impl PauliProduct {
     {
         let p = self.items;
         let q = right.items;
-        let a = crate::multiply::multiply(Kind::Pauli, p, q);
+        let a = merging::multiply::multiply(Kind::Pauli, p, q);
         let outcome = a.outcome;
         let items = a.items;
         let factor = complex::unit_of_i(a.power);
@@ -90,7 +94,7 @@ impl PauliProduct {
     {
         let p = self.items;
         let q = other.items;
-        let a = crate::multiply::concatenate(p, q);
+        let a = merging::multiply::concatenate(p, q);
         let outcome = a.outcome;
         let items = a.items;
         PauliAnswer {
@@ -104,7 +108,7 @@ impl PauliProduct {
         ensures { λ r. ⌜ toldPauli r ≡ remapAnswer (at targets) (self .items) ⌝ }
     {
         let p = self.items;
-        let a = crate::remap::remap_qubits(p, targets);
+        let a = merging::remap::remap_qubits(p, targets);
         let outcome = a.outcome;
         let items = a.items;
         PauliAnswer {
@@ -119,7 +123,7 @@ impl PauliProduct {
     {
         let p = self.items;
         let q = other.items;
-        crate::order::compare(Kind::Pauli, p, q)
+        ordering::compare(Kind::Pauli, p, q)
     }
 
     // The conjugate transpose: the product itself, with the factor 1.
@@ -127,7 +131,7 @@ impl PauliProduct {
         ensures { λ r. ⌜ toldPauliSign r ≡ withSign (conjugateAnswer pauli (self .items)) ⌝ }
     {
         let p = self.items;
-        let a = crate::change::conjugate(Kind::Pauli, p);
+        let a = phases::conjugate(Kind::Pauli, p);
         let outcome = a.outcome;
         let items = a.items;
         let factor = complex::unit_of_i(a.power);

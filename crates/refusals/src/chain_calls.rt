@@ -2,46 +2,47 @@
 use crate::records::value;
 use crate::report::told;
 use crate::report::told_anew;
-use crate::same::same_hamiltonian;
-use crate::same::same_terms;
 use crate::set_calls::decoherence_operator;
+use crate::set_calls::hamiltonian_kept;
 use crate::set_calls::pauli_operator;
 use crate::set_records::hamiltonian;
 use crate::set_records::set;
-use operators::decoherence_operator::DecoherenceOperator;
-use operators::decoherence_operator::DecoherenceOperatorAnswer;
-use operators::pauli_hamiltonian::PauliHamiltonian;
-use operators::pauli_operator::PauliOperator;
-use operators::pauli_operator::PauliOperatorAnswer;
-use operators::term_set::TermSet;
-use operators::term_set::empty_set;
+use observations::records::same_terms;
+use spins::DecoherenceOperator;
+use spins::DecoherenceOperatorAnswer;
+use spins::PauliHamiltonian;
+use spins::PauliOperator;
+use spins::PauliOperatorAnswer;
+use spins::TermSet;
 
 fn operator_told(s: TermSet, r: PauliOperatorAnswer) {
     let outcome = r.outcome;
-    told(outcome, same_terms(s, r.operator.terms));
+    told(outcome, same_terms(true, s, r.operator.terms));
 }
 
 // An operator made of other records: the empty one stands beside a refusal.
 fn operator_made(r: PauliOperatorAnswer) {
     let outcome = r.outcome;
-    told_anew(outcome, same_terms(empty_set(), r.operator.terms));
+    let none = PauliOperator::new();
+    told_anew(outcome, same_terms(true, none.terms, r.operator.terms));
 }
 
 fn decoherence_told(s: TermSet, r: DecoherenceOperatorAnswer) {
     let outcome = r.outcome;
-    told(outcome, same_terms(s, r.operator.terms));
+    told(outcome, same_terms(true, s, r.operator.terms));
 }
 
 fn hamiltonian_conjugate(h: PauliHamiltonian) {
     let r = h.hermitian_conjugate();
     let outcome = r.outcome;
-    told(outcome, same_hamiltonian(h, r.set));
+    told(outcome, hamiltonian_kept(h, r.set));
 }
 
 fn from_pauli_operator(s: TermSet) {
     let r = DecoherenceOperator::from_pauli_operator(pauli_operator(s));
     let outcome = r.outcome;
-    told_anew(outcome, same_terms(empty_set(), r.operator.terms));
+    let none = DecoherenceOperator::new();
+    told_anew(outcome, same_terms(true, none.terms, r.operator.terms));
 }
 
 pub(crate) fn call(a: [u64; 26]) {

@@ -5,7 +5,6 @@ mod product_calls;
 mod records;
 mod report;
 mod row_calls;
-mod same;
 mod set_calls;
 mod set_records;
 mod single_letters;

@@ -4,22 +4,22 @@ use crate::records::product;
 use crate::records::targets;
 use crate::records::value;
 use crate::report::told;
-use crate::same::same_hamiltonian;
-use crate::same::same_noise;
 use crate::set_calls::answered;
 use crate::set_calls::decoherence_operator;
 use crate::set_calls::got;
+use crate::set_calls::hamiltonian_kept;
 use crate::set_records::hamiltonian;
 use crate::set_records::pairs;
 use crate::set_records::set;
-use complex::Complex;
-use noise::noise_set::NoiseSet;
-use noise::pauli_noise_operator::NoiseOperatorAnswer;
-use noise::pauli_noise_operator::PauliLindbladNoiseOperator;
-use open_system::PauliLindbladOpenSystem;
-use operators::pauli_hamiltonian::PauliHamiltonian;
-use operators::term_set::TermSet;
-use products::items::Items;
+use observations::records::same_pairs;
+use spins::Complex;
+use spins::Items;
+use spins::NoiseOperatorAnswer;
+use spins::NoiseSet;
+use spins::PauliHamiltonian;
+use spins::PauliLindbladNoiseOperator;
+use spins::PauliLindbladOpenSystem;
+use spins::TermSet;
 
 pub(crate) fn noise_operator(w: NoiseSet) -> PauliLindbladNoiseOperator {
     PauliLindbladNoiseOperator { set: w }
@@ -27,7 +27,7 @@ pub(crate) fn noise_operator(w: NoiseSet) -> PauliLindbladNoiseOperator {
 
 fn noise_told(w: NoiseSet, r: NoiseOperatorAnswer) {
     let outcome = r.outcome;
-    told(outcome, same_noise(w, r.operator.set));
+    told(outcome, same_pairs(true, w, r.operator.set));
 }
 
 // `get` (40), `set` (41) and `add_operator_product` (42).
@@ -37,7 +37,7 @@ fn pair_calls(entry: u64, w: NoiseSet, left: Items, right: Items, value: Complex
     } else if entry == 41 {
         let r = noise_operator(w).set(decoherence(left), decoherence(right), value);
         let answer = r.answer;
-        answered(answer, same_noise(w, r.operator.set));
+        answered(answer, same_pairs(true, w, r.operator.set));
     } else {
         noise_told(
             w,
@@ -61,8 +61,8 @@ fn remap_qubits(w: NoiseSet, t: [u8; 31]) {
 
 // Whether a system's parts are these.
 fn made_of(s: PauliLindbladOpenSystem, h: PauliHamiltonian, w: NoiseSet) -> bool {
-    if same_hamiltonian(h, s.system) {
-        return same_noise(w, s.noise.set);
+    if hamiltonian_kept(h, s.system) {
+        return same_pairs(true, w, s.noise.set);
     }
     false
 }

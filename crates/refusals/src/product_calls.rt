@@ -7,16 +7,15 @@ use crate::report::accepted;
 use crate::report::refused;
 use crate::report::told;
 use crate::report::told_anew;
-use crate::same::same_items;
-use products::decoherence_product::DecoherenceAnswer;
-use products::decoherence_product::DecoherenceProduct;
-use products::decoherence_product::ProductRow;
-use products::items::Compared;
-use products::items::Got;
-use products::items::Items;
-use products::items::empty;
-use products::pauli_product::PauliAnswer;
-use products::pauli_product::PauliProduct;
+use observations::records::same_items;
+use spins::Compared;
+use spins::DecoherenceAnswer;
+use spins::DecoherenceProduct;
+use spins::Got;
+use spins::Items;
+use spins::PauliAnswer;
+use spins::PauliProduct;
+use spins::ProductRow;
 
 pub(crate) fn pauli(p: Items) -> PauliProduct {
     PauliProduct { items: p }
@@ -106,11 +105,13 @@ fn convert(kind: u64, p: Items) {
     if kind == 0 {
         let r = DecoherenceProduct::spin_to_decoherence(pauli(p));
         let outcome = r.outcome;
-        told_anew(outcome, same_items(empty(), r.product.items));
+        let none = DecoherenceProduct::new();
+        told_anew(outcome, same_items(none.items, r.product.items));
     } else {
         let r = decoherence(p).decoherence_to_spin();
         let outcome = r.outcome;
-        told_anew(outcome, same_items(empty(), r.product.items));
+        let none = PauliProduct::new();
+        told_anew(outcome, same_items(none.items, r.product.items));
     }
 }
 

@@ -1,6 +1,7 @@
 // Coefficients, products and targets of a case, from its numbers; well-formed or not.
-use complex::Complex;
-use products::items::Items;
+use spins::Complex;
+use spins::Items;
+use spins::PauliProduct;
 
 // 2^300, the largest coefficient, and the next f64 above it.
 const LIMIT: f64 =
@@ -66,7 +67,8 @@ pub(crate) fn value(x: u64) -> Complex {
 
 // A record with two places written.
 pub(crate) fn two_items(count: usize, s: u8, x: u8, t: u8, y: u8) -> Items {
-    let mut p = products::items::empty();
+    let none = PauliProduct::new();
+    let mut p = none.items;
     p.sites[0] = s;
     p.letters[0] = x;
     p.sites[1] = t;
@@ -77,7 +79,8 @@ pub(crate) fn two_items(count: usize, s: u8, x: u8, t: u8, y: u8) -> Items {
 
 // X on each of the sites 0 to 30, under a count.
 fn all_sites(count: usize) -> Items {
-    let mut p = products::items::empty();
+    let none = PauliProduct::new();
+    let mut p = none.items;
     let mut site: u8 = 0;
     let mut i = 0usize;
     while i < 31 {

@@ -1,23 +1,10 @@
 // What a call answers: that it is accepted, or its number and whether what was handed in is as before.
-use refusal::Carried;
-use refusal::Outcome;
-use refusal::Refusal;
+use observations::refused::print_refusal;
+use spins::Outcome;
+use spins::Refusal;
 
 pub(crate) fn accepted() {
     io::write_all(1, b"accepted\n");
-}
-
-// A refusal's number, and its site where it has one.
-pub(crate) fn print_refusal(why: Refusal) {
-    io::write_all(1, b"refused ");
-    io::print_decimal(1, why.number() as u64);
-    match why.site() {
-        Carried::Site(site) => {
-            io::write_all(1, b" site ");
-            io::print_decimal(1, site as u64);
-        }
-        Carried::Nothing => {}
-    }
 }
 
 // A refusal by an entry that gives nothing back.

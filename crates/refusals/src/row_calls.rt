@@ -1,36 +1,30 @@
 // The row entries: a set, two sets whose products make the pairs of noise, the spins, the row and the places of the three buffers.
-ghost use Prim.Native.Nat.{_≤_};
 use crate::noise_calls::noise_operator;
 use crate::records::narrow;
-use crate::report::print_refusal;
 use crate::set_calls::pauli_operator;
 use crate::set_records::hamiltonian;
 use crate::set_records::pairs;
 use crate::set_records::set;
-use noise::noise_set::NoiseSet;
-use open_system::PauliLindbladOpenSystem;
-use open_system::exact_row::exact_row;
-use open_system::noise_row::noise_row;
-use open_system::operator_row::commutator_row;
-use open_system::operator_row::hamiltonian_commutator_row;
-use open_system::operator_row::hamiltonian_row;
-use open_system::operator_row::operator_row;
-use operators::term_set::TermSet;
-use rows::Delivery;
-
-// What the buffers hold before the call.
-const OLD_COLUMN: u64 = 77;
-
-const OLD_PART: f64 = 0.25;
-
-const OLD_HALVES: i64 = 7;
-
-// At most the places of a buffer.
-fn within(n: usize) -> usize
-    ensures { λ r. ⌜ r ≤ 16 ⌝ }
-{
-    if n < 16 { n } else { 16 }
-}
+use observations::buffers::OLD_COLUMN;
+use observations::buffers::OLD_HALVES;
+use observations::buffers::OLD_PART;
+use observations::buffers::PLACES;
+use observations::buffers::columns_kept;
+use observations::buffers::halves_kept;
+use observations::buffers::parts_kept;
+use observations::buffers::within;
+use observations::refused::print_refusal;
+use spins::Delivery;
+use spins::NoiseSet;
+use spins::PauliLindbladOpenSystem;
+use spins::TermSet;
+use spins::commutator_row;
+use spins::exact_row;
+use spins::hamiltonian_commutator_row;
+use spins::hamiltonian_row;
+use spins::noise_row;
+use spins::open_row;
+use spins::operator_row;
 
 // The terms as a Hamiltonian, with noise.
 fn system(s: TermSet, w: NoiseSet) -> PauliLindbladOpenSystem {
@@ -59,50 +53,8 @@ fn called(
         52 => hamiltonian_row(x.system, spins, row, columns, re, im),
         53 => hamiltonian_commutator_row(x.system, spins, row, columns, re, im),
         54 => noise_row(x.noise, spins, row, columns, re, im),
-        _ => open_system::row(x, spins, row, columns, re, im),
+        _ => open_row(x, spins, row, columns, re, im),
     }
-}
-
-// Whether the buffers hold from n on what they held before the call.
-fn untouched(columns: &[u64; 16], re: &[f64; 16], im: &[f64; 16], n: usize) -> bool {
-    let mut same = true;
-    let mut i = 0usize;
-    while i < 16 {
-        if i >= n {
-            if columns[i] != OLD_COLUMN {
-                same = false;
-            }
-            if re[i] != OLD_PART {
-                same = false;
-            }
-            if im[i] != OLD_PART {
-                same = false;
-            }
-        }
-        i += 1;
-    }
-    same
-}
-
-// The same for a row in halves.
-fn untouched_halves(columns: &[u64; 16], re: &[i64; 16], im: &[i64; 16], n: usize) -> bool {
-    let mut same = true;
-    let mut i = 0usize;
-    while i < 16 {
-        if i >= n {
-            if columns[i] != OLD_COLUMN {
-                same = false;
-            }
-            if re[i] != OLD_HALVES {
-                same = false;
-            }
-            if im[i] != OLD_HALVES {
-                same = false;
-            }
-        }
-        i += 1;
-    }
-    same
 }
 
 // The entries delivered.
@@ -144,9 +96,9 @@ fn float_row(
     q: usize,
     r: usize,
 ) {
-    let mut columns = [OLD_COLUMN; 16];
-    let mut re = [OLD_PART; 16];
-    let mut im = [OLD_PART; 16];
+    let mut columns = [OLD_COLUMN; PLACES];
+    let mut re = [OLD_PART; PLACES];
+    let mut im = [OLD_PART; PLACES];
     let a = within(p);
     let b = within(q);
     let c = within(r);
@@ -160,19 +112,27 @@ fn float_row(
         &mut re[..b],
         &mut im[..c],
     );
-    delivered(d, untouched(&columns, &re, &im, count_of(d)));
+    let n = count_of(d);
+    delivered(
+        d,
+        columns_kept(&columns, n) & parts_kept(&re, n) & parts_kept(&im, n),
+    );
 }
 
 // A row in halves.
 fn halves_row(s: PauliLindbladOpenSystem, spins: u32, row: u64, p: usize, q: usize, r: usize) {
-    let mut columns = [OLD_COLUMN; 16];
-    let mut re = [OLD_HALVES; 16];
-    let mut im = [OLD_HALVES; 16];
+    let mut columns = [OLD_COLUMN; PLACES];
+    let mut re = [OLD_HALVES; PLACES];
+    let mut im = [OLD_HALVES; PLACES];
     let a = within(p);
     let b = within(q);
     let c = within(r);
     let d = exact_row(s, spins, row, &mut columns[..a], &mut re[..b], &mut im[..c]);
-    delivered(d, untouched_halves(&columns, &re, &im, count_of(d)));
+    let n = count_of(d);
+    delivered(
+        d,
+        columns_kept(&columns, n) & halves_kept(&re, n) & halves_kept(&im, n),
+    );
 }
 
 pub(crate) fn call(a: [u64; 26]) {

@@ -7,18 +7,18 @@ use crate::report::accepted;
 use crate::report::kept;
 use crate::report::refused;
 use crate::report::told;
-use crate::same::same_hamiltonian;
-use crate::same::same_terms;
 use crate::set_records::hamiltonian;
 use crate::set_records::set;
-use complex::Complex;
-use operators::decoherence_operator::DecoherenceOperator;
-use operators::pauli_hamiltonian::PauliHamiltonian;
-use operators::pauli_operator::PauliOperator;
-use operators::term_set::GetAnswer;
-use operators::term_set::SetAnswer;
-use operators::term_set::TermSet;
-use products::items::Items;
+use observations::records::complex_terms;
+use observations::records::same_terms;
+use spins::Complex;
+use spins::DecoherenceOperator;
+use spins::GetAnswer;
+use spins::Items;
+use spins::PauliHamiltonian;
+use spins::PauliOperator;
+use spins::SetAnswer;
+use spins::TermSet;
 
 pub(crate) fn pauli_operator(s: TermSet) -> PauliOperator {
     PauliOperator { terms: s }
@@ -44,17 +44,22 @@ pub(crate) fn answered(answer: SetAnswer, same: bool) {
     }
 }
 
+// Whether a Hamiltonian is as before, to the bit.
+pub(crate) fn hamiltonian_kept(before: PauliHamiltonian, after: PauliHamiltonian) -> bool {
+    same_terms(true, complex_terms(before), complex_terms(after))
+}
+
 fn operator_calls(entry: u64, s: TermSet, key: Items, value: Complex) {
     if entry == 20 {
         got(pauli_operator(s).get(pauli(key)));
     } else if entry == 21 {
         let r = pauli_operator(s).set(pauli(key), value);
         let answer = r.answer;
-        answered(answer, same_terms(s, r.operator.terms));
+        answered(answer, same_terms(true, s, r.operator.terms));
     } else {
         let r = pauli_operator(s).add_operator_product(pauli(key), value);
         let outcome = r.outcome;
-        told(outcome, same_terms(s, r.operator.terms));
+        told(outcome, same_terms(true, s, r.operator.terms));
     }
 }
 
@@ -64,11 +69,11 @@ fn decoherence_calls(entry: u64, s: TermSet, key: Items, value: Complex) {
     } else if entry == 21 {
         let r = decoherence_operator(s).set(decoherence(key), value);
         let answer = r.answer;
-        answered(answer, same_terms(s, r.operator.terms));
+        answered(answer, same_terms(true, s, r.operator.terms));
     } else {
         let r = decoherence_operator(s).add_operator_product(decoherence(key), value);
         let outcome = r.outcome;
-        told(outcome, same_terms(s, r.operator.terms));
+        told(outcome, same_terms(true, s, r.operator.terms));
     }
 }
 
@@ -78,11 +83,11 @@ fn hamiltonian_calls(entry: u64, h: PauliHamiltonian, key: Items, value: f64) {
     } else if entry == 21 {
         let r = h.set(pauli(key), value);
         let answer = r.answer;
-        answered(answer, same_hamiltonian(h, r.set));
+        answered(answer, hamiltonian_kept(h, r.set));
     } else {
         let r = h.add_operator_product(pauli(key), value);
         let outcome = r.outcome;
-        told(outcome, same_hamiltonian(h, r.set));
+        told(outcome, hamiltonian_kept(h, r.set));
     }
 }
 

@@ -3,14 +3,16 @@ ghost use Prim.Native.Nat.{_≤_};
 use crate::records::product;
 use crate::records::two_items;
 use crate::records::value;
-use complex::Complex;
-use noise::noise_set::NoiseSet;
-use noise::noise_set::NoiseTerm;
-use operators::pauli_hamiltonian::PauliHamiltonian;
-use operators::pauli_hamiltonian::RealTerm;
-use operators::term_set::Term;
-use operators::term_set::TermSet;
-use products::items::Items;
+use spins::Complex;
+use spins::Items;
+use spins::NoiseSet;
+use spins::NoiseTerm;
+use spins::PauliHamiltonian;
+use spins::PauliLindbladNoiseOperator;
+use spins::PauliOperator;
+use spins::RealTerm;
+use spins::Term;
+use spins::TermSet;
 
 // A set with a term at a place, if it has the place, under a count.
 fn placed(s: TermSet, at: usize, key: Items, value: Complex, count: usize) -> TermSet {
@@ -27,7 +29,8 @@ fn placed(s: TermSet, at: usize, key: Items, value: Complex, count: usize) -> Te
 
 // The first n of 64 different keys: X on the sites 0 to 30, then Y, then Z.
 fn filled(n: usize, value: Complex) -> TermSet {
-    let mut s = operators::term_set::empty_set();
+    let none = PauliOperator::new();
+    let mut s = none.terms;
     let mut site: u8 = 0;
     let mut letter: u8 = 1;
     let mut i = 0usize;
@@ -46,13 +49,8 @@ fn filled(n: usize, value: Complex) -> TermSet {
 // 1Z and 2Z, then products below the place n, each with minus X0 times it.
 fn cancelling(n: usize) -> TermSet {
     let one = value(1);
-    let mut s = placed(
-        operators::term_set::empty_set(),
-        0,
-        two_items(1, 1, 3, 0, 0),
-        one,
-        1,
-    );
+    let none = PauliOperator::new();
+    let mut s = placed(none.terms, 0, two_items(1, 1, 3, 0, 0), one, 1);
     s = placed(s, 1, two_items(1, 2, 3, 0, 0), one, 2);
     let mut site: u8 = 1;
     let mut letter: u8 = 1;
@@ -112,7 +110,8 @@ pub(crate) fn hamiltonian(s: TermSet) -> PauliHamiltonian {
 
 // The pairs of two sets' products at the same place, with the coefficients and the count of the first.
 pub(crate) fn pairs(s: TermSet, u: TermSet) -> NoiseSet {
-    let mut w = noise::noise_set::empty_set();
+    let none = PauliLindbladNoiseOperator::new();
+    let mut w = none.set;
     let mut i = 0usize;
     while i < 64 {
         let t = s.terms[i];

@@ -2,10 +2,10 @@
 use crate::records::small;
 use crate::report::accepted;
 use crate::report::refused;
-use letters::ComplexLetter;
-use letters::SignedLetter;
-use letters::single_decoherence_operator;
-use letters::single_pauli_operator;
+use spins::ComplexLetter;
+use spins::SignedLetter;
+use spins::single_decoherence_operator;
+use spins::single_pauli_operator;
 
 fn complex_letter(a: ComplexLetter) {
     match a {

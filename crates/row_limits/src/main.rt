@@ -6,6 +6,7 @@ use report::fewer;
 use report::lent;
 use report::named;
 use report::named_in_row;
+use spins::PauliLindbladOpenSystem;
 use systems::at_site;
 use systems::full;
 use systems::noise_at_site;
@@ -13,7 +14,7 @@ use systems::worked;
 
 // No spins, too many spins, and the case of one spin that is worked out by hand.
 fn few_spins() {
-    let none = open_system::PauliLindbladOpenSystem::new();
+    let none = PauliLindbladOpenSystem::new();
     named(b"no spins, row 0");
     lent(none, 0, 0, 4, 4, 4);
     named(b"no spins, row 1");

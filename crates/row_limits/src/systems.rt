@@ -1,11 +1,11 @@
 // The systems whose rows are run.
-use complex::Complex;
-use noise::pauli_noise_operator::PauliLindbladNoiseOperator;
-use open_system::PauliLindbladOpenSystem;
-use operators::pauli_hamiltonian::PauliHamiltonian;
-use products::decoherence_product::DecoherenceProduct;
-use products::items::Items;
-use products::pauli_product::PauliProduct;
+use spins::Complex;
+use spins::DecoherenceProduct;
+use spins::Items;
+use spins::PauliHamiltonian;
+use spins::PauliLindbladNoiseOperator;
+use spins::PauliLindbladOpenSystem;
+use spins::PauliProduct;
 
 // The letter of a seed's product on a site: X or Y where the seed has the bit, else Z on each third site.
 fn letter(seed: u8, site: u8) -> u8 {
@@ -17,20 +17,20 @@ fn letter(seed: u8, site: u8) -> u8 {
 
 // The product of a seed, on up to 31 sites. Products of different seeds flip different spins.
 fn seeded(seed: u8) -> Items {
-    let mut p = products::items::empty();
+    let mut p = PauliProduct::new();
     let mut site: u8 = 0;
     while site < 31 {
-        let a = products::put::set_pauli(p, site, letter(seed, site));
-        p = a.items;
+        let a = p.set_pauli(site, letter(seed, site));
+        p = a.product;
         site += 1;
     }
-    p
+    p.items
 }
 
 // The product of one letter.
 fn single(site: u8, letter: u8) -> Items {
-    let a = products::put::set_pauli(products::items::empty(), site, letter);
-    a.items
+    let a = PauliProduct::new().set_pauli(site, letter);
+    a.product.items
 }
 
 // 64 terms with the coefficients 1 to 64.

@@ -1,15 +1,14 @@
 -- A call that is refused, and one whose contributions are judged first, as row calls; the tests of a call in their order.
 -- Assumes nothing.
-use mathlib.Core.Path.{_≡_, refl, _∙_, subst}
+use mathlib.Core.Path.{_≡_, refl, subst}
 use mathlib.Core.Bool.{Bool, true, false, not, cond}
 use mathlib.Core.List.{List, [], _∷_}
-use Prim.Native.Nat.{ℕ, _+_, _*_, _^_, _≤_, _<_}
+use Prim.Native.Nat.{ℕ, _≤_, _<_}
 use native.Mathlib.Omega.{arith}
-use lib.Pow.{pow-add}
 use borrow.Author.Tests.{lt-ltb, le-ltb, le-leb, lt-leb}
 use Rattle.refusal.specs.Refusals.{Said, gives, refuses}
-use Rattle.products.specs.Answers.{mostSpins}
-use Rattle.products.specs.declared.items.Items.{Items}
+use Rattle.row_entries.specs.Answers.{mostSpins}
+use Rattle.items.specs.declared.Items.{Items}
 use Rattle.rows.specs.Buffers.{TwoParts}
 use Rattle.rows.specs.Calls.{countOf, after, RowCallIn, outside, unlessOutside, checkedRow, unlessMalformed}
 
@@ -63,7 +62,3 @@ call-malformed good x a b c e = rw e (call-refused 0 [] a b c)
 pub call-valid : {N X : Type 0} {P : TwoParts N X} (good : Bool) {x y : Said (List (ℕ × N))} {r : Said ℕ} {a a′ : List ℕ} {b b′ c c′ : List X} → good ≡ true → x ≡ y → RowCallIn P x r a a′ b b′ c c′
     → RowCallIn P (cond (not good) (refuses 0 []) y) r a a′ b b′ c c′
 call-valid {N} {X} {P} good {x} {y} {r} {a} {a′} {b} {b′} {c} {c′} e f d = rw e (subst (λ (z : Said (List (ℕ × N))). RowCallIn P z r a a′ b b′ c c′) f d)
-
--- the count of a superoperator's rows
-pub pairs-size : (n : ℕ) {size : ℕ} → size ≡ 2 ^ (n + n) → size ≡ 2 ^ n * 2 ^ n
-pairs-size n e = e ∙ pow-add 2 n n

@@ -1,18 +1,22 @@
 -- Entries of three arrays handed over into three lent buffers: the loop that copies, and what the buffers then hold.
 -- Assumes nothing.
-use Prim.Native.Nat.{ℕ, zero, suc, _+_, _≤_, _<_}
+use Prim.Native.Nat.{ℕ, zero, suc, _+_, _≤_, _<_, min}
 use native.Mathlib.Numerals.{add-one}
+use native.Mathlib.Nat.{not-suc-le-zero, le-of-suc-le-suc, eq-or-lt-of-le}
 use native.Mathlib.Omega.{arith}
-use mathlib.Core.Path.{_≡_, refl, sym, ap, _∙_}
+use mathlib.Core.Logic.{⊎-elim}
+use mathlib.Core.Path.{_≡_, refl, sym, ap, _∙_, subst}
 use mathlib.Core.Bool.{true, false, and-false}
 use mathlib.Core.List.{List, [], _∷_, _++_, map, map-append}
 use lib.Dec.{leb}
-use lib.ListN.{length, getD, set, take, drop, length-set}
-use lib.Seq.{drop-cons, set-at, append-snoc, take-suc, length-take-le}
+use lib.ListN.{length, getD, set, take, drop, length-set, length-map, List·getD-append}
+use lib.Seq.{drop-cons, set-at, append-snoc, take-suc, take-all, getD-at, getD-take, ext-getD, length-take-le}
 use borrow.Author.Tests.{le-leb, lt-leb}
 use Rattle.refusal.specs.Refusals.{Said, gives, refuses}
-use Rattle.rows.specs.Buffers.{TwoParts, Long, entryIn, entriesIn, mostEntries, roomFor}
+use Rattle.sorting.specs.Sorting.{upTo}
+use Rattle.rows.specs.Buffers.{TwoParts, Long, entryIn, entriesIn, mostEntries, roomFor, firstNumbers, putInto}
 use Rattle.rows.specs.Calls.{countOf, after, unlessMalformed, RowCallIn}
+use Rattle.sorting.proofs.FirstPlaces.{length-upTo}
 use Rattle.rows.proofs.ArrayLaws.{Faithful, length-entriesIn}
 use Rattle.rows.proofs.CallLaws.{contributions-refused, contributions-taken, row-given}
 
@@ -51,6 +55,47 @@ module _ {A : Type 0} where
       let e : i ≡ n = omega arith in
       c .shape ∙ ap (λ (k : ℕ). take k s ++ drop k d) e
 
+-- ---- numbers read one by one
+
+module _ (s : List ℕ) where
+  length-first : (k : ℕ) → length (firstNumbers s k) ≡ k
+  length-first k = length-map (upTo k) (λ i. getD s i 0) ∙ length-upTo k
+
+  first-at : (k i : ℕ) → i < k → getD (firstNumbers s k) i 0 ≡ getD s i 0
+  unfolding upTo
+  first-at zero i h = absurd (not-suc-le-zero h)
+  first-at (suc k) i h =
+      rw (map-append (λ i. getD s i 0) (upTo k) (k ∷ []))
+      (⊎-elim
+      (λ e. rw e (getD-at (firstNumbers s k) (getD s k 0) [] 0 k (length-first k)))
+      (λ l. List·getD-append (firstNumbers s k) (getD s k 0 ∷ []) 0 i (omega (arith, length-first k)) ∙ first-at k i l)
+      (eq-or-lt-of-le (le-of-suc-le-suc h)))
+
+  -- they are what stands there
+  first-is : (k : ℕ) → k ≤ length s → firstNumbers s k ≡ take k s
+  first-is k h =
+      ext-getD 0 (firstNumbers s k) (take k s) (length-first k ∙ sym (length-take-le k s h))
+      (λ i l. let m : i < k = omega (arith, length-first k) in first-at k i m ∙ sym (getD-take k s i 0 m))
+
+  -- the loop that copies them
+  pub numbers-more : {d : List ℕ} {k i : ℕ} {out : List ℕ} → Copied d (firstNumbers s k) k i out → i < k → k ≤ length d → Copied d (firstNumbers s k) k (i + 1) (set out i (getD s i 0))
+  numbers-more {d} {k} {i} {out} c h l =
+      subst (λ (x : ℕ). Copied d (firstNumbers s k) k (i + 1) (set out i x)) (first-at k i h) (copied-more 0 c h l (omega (arith, length-first k)))
+
+  pub numbers-done : (n : ℕ) {d : List ℕ} {few k i : ℕ} {out : List ℕ} → few ≡ min n mostEntries → k ≡ min few (length d) → Copied d (firstNumbers s k) k i out → k ≤ i → out ≡ putInto n s d
+  unfolding putInto
+  numbers-done n {d} {few} {k} e f c h =
+      copied-done c h
+      ∙ ap (λ (l : List ℕ). l ++ drop k d) (take-all k (firstNumbers s k) (omega (arith, length-first k)))
+      ∙ ap (λ (m : ℕ). firstNumbers s m ++ drop m d) (f ∙ ap (λ (m : ℕ). min m (length d)) e)
+
+  -- all n of them, where the array and the buffer have as many
+  put-all : (n : ℕ) (d : List ℕ) → n ≤ mostEntries → n ≤ length s → n ≤ length d → putInto n s d ≡ take n s ++ drop n d
+  unfolding putInto
+  put-all n d h l k =
+      let e : min (min n mostEntries) (length d) ≡ n = omega arith in
+      ap (λ (m : ℕ). firstNumbers s m ++ drop m d) e ∙ ap (λ (t : List ℕ). t ++ drop n d) (first-is n l)
+
 -- ---- one array of the entries
 
 -- a part of every entry, read from its own array
@@ -81,7 +126,7 @@ module _ {N X : Type 0} (P : TwoParts N X) (cs : List ℕ) (xs ys : List X) (n :
 -- three copies of n entries, where there is room for them
 pub has-room : {N X : Type 0} {P : TwoParts N X} → Faithful P → (cs : List ℕ) (xs ys : List X) (n : ℕ) → Long cs xs ys → n ≤ 320 → (a a′ : List ℕ) (b b′ c c′ : List X)
     → n ≤ length a → n ≤ length b → n ≤ length c
-    → a′ ≡ take n cs ++ drop n a → b′ ≡ take n xs ++ drop n b → c′ ≡ take n ys ++ drop n c → RowCallIn P (gives (entriesIn P cs xs ys n)) (gives n) a a′ b b′ c c′
+    → a′ ≡ putInto n cs a → b′ ≡ take n xs ++ drop n b → c′ ≡ take n ys ++ drop n c → RowCallIn P (gives (entriesIn P cs xs ys n)) (gives n) a a′ b b′ c c′
 unfolding countOf after
 has-room {N} {X} {P} f cs xs ys n long few a a′ b b′ c c′ ha hb hc ea eb ec =
     let l = entriesIn P cs xs ys n in
@@ -95,7 +140,7 @@ has-room {N} {X} {P} f cs xs ys n long few a a′ b b′ c c′ ha hb hc ea eb e
     let r : roomFor (length l) a b c ≡ true = rw (q, le-leb n (length a) ha, le-leb n (length b) hb, le-leb n (length c) hc) in
     record {
       answer = rw (r, q);
-      columns = rw (r, pc, length-take-le n cs (omega arith)) ea;
+      columns = rw (r, pc, length-take-le n cs (omega arith)) (ea ∙ put-all cs n a few (omega arith) ha);
       reals = rw (r, px, length-take-le n xs (omega arith)) eb;
       imaginaries = rw (r, py, length-take-le n ys (omega arith)) ec;
     }

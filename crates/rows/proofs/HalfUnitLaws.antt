@@ -9,7 +9,7 @@ use Rattle.complex.specs.declared.Complex.{Complex}
 use Rattle.letters.specs.Gauss.{𝟘, 𝟙, −𝟙, i⁺, _⊗_, i^}
 use Rattle.letters.specs.Answers.{inFloats}
 use Rattle.letters.proofs.GaussLaws.{i^-mod}
-use Rattle.rows.specs.Numbers.{minusHalfFloat, minusHalfUnit}
+use Rattle.rows.specs.HalfUnits.{minusHalfFloat, minusHalfUnit}
 
 -- doubled it is -i^k; adding +0 makes its -0 into +0, and leaves every other number
 pub minus-half-exact : (k : ℕ) → sumOf (sumOf (minusHalfUnit k) (minusHalfUnit k)) (inFloats 𝟘) ≡ inFloats (−𝟙 ⊗ i^ k)

@@ -6,10 +6,11 @@ use mathlib.Core.Path.{_≡_, refl, sym, ap, _∙_}
 use mathlib.Core.List.{List, [], _∷_, _++_}
 use borrow.Author.Tests.{lt-ltb, le-ltb, eq-eqb, ne-eqb}
 use Rattle.rows.specs.Placing.{placed, placeAll, rowOf}
-use Rattle.rows.specs.Sums.{Ascending}
-use Rattle.rows.specs.Sorting.{Rising, inserted, sortedOnto, sorted, merged, addedFrom, neighboursAdded}
+use Rattle.master_equation.specs.Sums.{Ascending}
+use Rattle.sorting.specs.Sorting.{Rising, inserted, sortedOnto, sorted, merged}
+use Rattle.rows.specs.Neighbours.{addedFrom, neighboursAdded}
 use Rattle.rows.proofs.PlacingLaws.{ascending-from, row-append}
-use Rattle.rows.proofs.SortLaws.{by-order, inserted-here, inserted-past, inserted-none, rising-inserted, sorted-rising, merged-sorted}
+use Rattle.sorting.proofs.SortLaws.{by-order, inserted-here, inserted-past, inserted-none, rising-inserted, sorted-rising, merged-sorted}
 
 -- the column of an entry
 abbrev pub columnOf : {N : Type 0} → ℕ × N → ℕ

@@ -7,14 +7,15 @@ use mathlib.Core.Path.{_≡_, refl, sym, ap, ap₂, _∙_}
 use mathlib.Core.Bool.{true, false}
 use mathlib.Core.List.{List, [], _∷_, _++_, map, append-assoc, append-nil}
 use lib.ListN.{length, getD, set, take, drop}
-use lib.Seq.{slice, take-take, take-at, drop-at}
+use lib.Seq.{take-at, drop-at}
 use lib.Ieee.{Float, nan}
 use Rattle.complex.specs.declared.Complex.{Complex}
-use Rattle.rows.specs.Numbers.{floats}
+use Rattle.rows.specs.Floats.{floats}
 use Rattle.rows.specs.Placing.{keptBy, rowIn, openRowIn}
-use Rattle.rows.specs.Sorting.{merged, neighboursAdded, upTo}
+use Rattle.sorting.specs.Sorting.{merged, upTo}
+use Rattle.rows.specs.Neighbours.{neighboursAdded}
 use Rattle.rows.specs.Buffers.{floatParts, Long, valueIn, entryIn, entries}
-use Rattle.rows.proofs.SortLaws.{map-merged}
+use Rattle.sorting.proofs.SortLaws.{map-merged}
 use Rattle.rows.proofs.PlacingLaws.{rowIn-ascending}
 use Rattle.rows.proofs.NeighbourLaws.{columnOf, placed-row}
 use Rattle.rows.proofs.ArrayLaws.{entries-none, entries-stored, entriesIn-map, entriesIn-more, length-entriesIn, long-stored}
@@ -67,12 +68,6 @@ module _ {A B : Type 0} (f : A → B) where
   map-drop (suc n) (x ∷ l) = map-drop n l
 
 -- ---- the row
-
--- the first places, merged by column
-pub places-merged : (key : ℕ → ℕ) (p q : ℕ) (a b : List ℕ) → take (p + q) a ≡ upTo (p + q) → slice 0 (p + q) b ≡ merged key (slice 0 p a) (slice p (p + q) a)
-    → take (p + q) b ≡ merged key (take p (upTo (p + q))) (drop p (upTo (p + q)))
-places-merged key p q a b counted together =
-    together ∙ ap₂ (merged key) (sym (take-take p (p + q) a (omega arith)) ∙ ap (take p) counted) (ap (drop p) counted)
 
 -- the places of both rows, merged by column, add up to the open system's row
 pub open-row : (cs : List ℕ) (xs ys : List Float) (p q : ℕ) (places : List ℕ) (commutator noise : List (ℕ × Complex))

@@ -9,9 +9,9 @@ use borrow.Author.Tests.{ltb-true, ltb-false, eqb-true, eqb-false, eq-eqb, ne-eq
 use lib.Dec.{eqb, ltb}
 use Rattle.letters.specs.Gauss.{G, 𝟘, _⊕_, eqG}
 use Rattle.letters.proofs.GaussLaws.{ring, ⊕-assoc, 𝟘-⊕, ⊕-𝟘, eqG-true}
-use Rattle.rows.specs.Numbers.{Numbers, halves}
+use Rattle.master_equation.specs.Numbers.{Numbers, halves}
 use Rattle.rows.specs.Placing.{placed, placeAll, rowOf, nonzero, keptBy, rowIn, openRowIn}
-use Rattle.rows.specs.Sums.{Ascending, Below, hasColumn, contributionsTo, orderedSum, summed, partAt, sumAt, valueAt}
+use Rattle.master_equation.specs.Sums.{Ascending, Below, hasColumn, contributionsTo, orderedSum, summed, partAt, sumAt, valueAt}
 
 -- ---- ascending columns
 

@@ -6,7 +6,6 @@ use mathlib.Core.Bool.{true, false}
 use mathlib.Core.List.{List, [], _∷_, _++_}
 use lib.IntN.{pos, negsuc}
 use lib.Ieee.{Float, fin, ofBits, add, sub, mul, neg, eq}
-use Rattle.refusal.specs.Refusals.{gives, refuses}
 use Rattle.complex.specs.Complex.{sumOf, productOf, unitOf, unitOfI, isZero}
 use Rattle.complex.specs.declared.Complex.{Complex}
 use Rattle.letters.specs.Tests.{firstFrom}
@@ -15,12 +14,11 @@ use Rattle.letters.specs.Sums.{total}
 use Rattle.letters.specs.Matrices.{two-by-two, pauli, decoherence, bit}
 use Rattle.letters.specs.Single.{cell}
 use Rattle.letters.specs.Rows.{columnOf, rowPower}
-use Rattle.rows.specs.Equation.{𝟚}
+use Rattle.master_equation.specs.Equation.{𝟚}
 use Rattle.rows.specs.Placing.{placed, placeAll, rowOf, nonzero, keptBy, rowIn}
-use Rattle.rows.specs.Numbers.{Numbers, halves, floats}
-use Rattle.rows.specs.Contributions.{commutatorTerms, noiseTerms}
-use Rattle.rows.specs.Calls.{unlessMalformed}
-use Rattle.rows.specs.ExactRows.{within, allSmall, exactAnswer}
+use Rattle.master_equation.specs.Numbers.{Numbers, halves}
+use Rattle.rows.specs.Floats.{floats}
+use Rattle.master_equation.specs.Contributions.{commutatorTerms, noiseTerms}
 
 -- row 0 of the commutator with Y on the spin
 abbrev rowOfY : {C N : Type 0} → Numbers C N → C → List (ℕ × N)
@@ -42,15 +40,6 @@ z-z-exact = refl
 worked-row : rowIn halves false (commutatorTerms halves 1 0 1 (λ s. 3) (record { re = pos 3; im = pos 0 }) ++ noiseTerms halves 1 0 1 (λ s. 1) (λ s. 1) (record { re = pos 2; im = pos 0 })) ≡ (1, record { re = negsuc 3; im = negsuc 11 }) ∷ (2, record { re = pos 4; im = pos 0 }) ∷ []
 unfolding rowIn keptBy rowOf placeAll placed nonzero commutatorTerms noiseTerms columnOf rowPower total bit cell firstFrom eqG eqℤ pauli decoherence two-by-two i^ _⊗_ _⊕_ 𝟘 𝟙 −𝟙 𝟚 i⁺ i⁻
 worked-row = refl
-
--- a contribution of 2^52 is added up, and one of 2^52 + 1 is refused
-largest-added : exactAnswer ((5, record { re = pos 4503599627370496; im = pos 0 }) ∷ []) ≡ gives ((5, record { re = pos 4503599627370496; im = pos 0 }) ∷ [])
-unfolding exactAnswer allSmall within unlessMalformed rowIn keptBy rowOf placeAll placed nonzero eqG eqℤ 𝟘
-largest-added = refl
-
-large-refused : exactAnswer ((5, record { re = pos 4503599627370497; im = pos 0 }) ∷ []) ≡ refuses 0 []
-unfolding exactAnswer allSmall within unlessMalformed
-large-refused = refl
 
 -- ---- in f64
 

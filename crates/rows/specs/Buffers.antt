@@ -1,13 +1,14 @@
 -- Contributions as three arrays of numbers, and the delivery of a row into three lent buffers: over any numbers of two parts, and in f64.
 use mathlib.Core.Path.{_≡_}
-use Prim.Native.Nat.{ℕ, zero, suc}
+use Prim.Native.Nat.{ℕ, zero, suc, min}
 use mathlib.Core.Bool.{Bool, _&&_, cond}
-use mathlib.Core.List.{List, [], _∷_, _++_}
+use mathlib.Core.List.{List, [], _∷_, _++_, map}
 use lib.Dec.{leb}
 use lib.ListN.{length, drop, getD}
 use lib.Ieee.{Float, nan}
 use Rattle.refusal.specs.Refusals.{Said, gives, refuses, number, siteOf}
 use Rattle.complex.specs.declared.Complex.{Complex}
+use Rattle.sorting.specs.Sorting.{upTo}
 use Rattle.rows.specs.declared.Delivery.{Delivery}
 
 -- the most contributions: 2 of each of 64 terms of a Hamiltonian and 3 of each of 64 pairs of noise
@@ -57,6 +58,14 @@ roomFor n a b c = leb n (length a) && (leb n (length b) && leb n (length c))
 -- s in front of what was there, where there is room
 abbrev pub laid : {X : Type 0} → Bool → List X → List X → List X
 laid room s old = cond room (s ++ drop (length s) old) old
+
+-- the first k numbers of an array
+abbrev pub firstNumbers : List ℕ → ℕ → List ℕ
+firstNumbers s k = map (λ i. getD s i 0) (upTo k)
+
+-- the first n numbers of an array of 320 in front of what was there: as many as the array has, and as the buffer has places for
+unfoldable pub putInto : ℕ → List ℕ → List ℕ → List ℕ
+putInto n s old = let k = min (min n mostEntries) (length old) in firstNumbers s k ++ drop k old
 
 abbrev pub saidDelivery : Delivery → Said ℕ
 saidDelivery (Delivery.Count n) = gives n

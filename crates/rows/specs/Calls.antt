@@ -9,9 +9,9 @@ use lib.ListN.{length}
 use lib.Ieee.{Float}
 use Rattle.refusal.specs.Refusals.{Said, gives, refuses}
 use Rattle.complex.specs.declared.Complex.{Complex}
-use Rattle.products.specs.Record.{reach}
-use Rattle.products.specs.Answers.{mostSpins}
-use Rattle.products.specs.declared.items.Items.{Items}
+use Rattle.items.specs.Record.{reach}
+use Rattle.row_entries.specs.Answers.{mostSpins}
+use Rattle.items.specs.declared.Items.{Items}
 use Rattle.rows.specs.Buffers.{TwoParts, floatParts, roomFor, laid}
 
 -- the highest site of the first product that has a site at n or above, as a list of one

@@ -1,9 +1,6 @@
 pub mod Placing
-pub mod Equation
-pub mod Numbers
-pub mod Contributions
-pub mod Sums
-pub mod Sorting
+pub mod HalfUnits
+pub mod Neighbours
 pub mod Buffers
 pub mod Calls
-pub mod ExactRows
+pub mod Floats

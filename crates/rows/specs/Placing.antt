@@ -6,7 +6,7 @@ use Prim.Native.Nat.{ℕ}
 use mathlib.Core.Bool.{Bool, true, false, cond}
 use mathlib.Core.List.{List, [], _∷_}
 use lib.Dec.{ltb, eqb}
-use Rattle.rows.specs.Numbers.{Numbers}
+use Rattle.master_equation.specs.Numbers.{Numbers}
 
 module _ {N : Type 0} (sum : N → N → N) where
   -- one contribution more, in a row by ascending column: added to its column's sum, or put in its place

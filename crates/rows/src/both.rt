@@ -2,12 +2,12 @@
 ghost use mathlib.Core.Path.{_≡_};
 ghost use mathlib.Core.List.{_++_};
 ghost use Prim.Native.Nat.{_+_, _≤_};
-ghost use Rattle.rows.specs.Numbers.{floats};
+ghost use Rattle.rows.specs.Floats.{floats};
 ghost use Rattle.rows.specs.Placing.{openRowIn};
 ghost use Rattle.rows.specs.Buffers.{Long, entries};
-use crate::sort::merged_places;
 use crate::sums::add_up;
 use crate::sums::collected;
+use sorting::merged_places;
 
 // The first q entries of three arrays, after the first p of three others.
 fn append(

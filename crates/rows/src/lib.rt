@@ -5,20 +5,17 @@ ghost use Prim.Native.Nat.{_+_, _≤_};
 ghost use lib.Dec.{leb};
 ghost use lib.ListN.{length, take, drop};
 ghost use Rattle.refusal.specs.Refusals.{gives};
-ghost use Rattle.rows.specs.ExactRows.{exactEntries, exactAnswer, ExactCall};
-ghost use Rattle.rows.specs.Numbers.{floats};
+ghost use Rattle.rows.specs.Floats.{floats};
 ghost use Rattle.rows.specs.Placing.{rowIn, openRowIn};
-ghost use Rattle.rows.specs.Buffers.{mostEntries, Long, saidDelivery, entries};
+ghost use Rattle.rows.specs.Buffers.{mostEntries, Long, putInto, saidDelivery, entries};
 ghost use Rattle.rows.specs.Calls.{unlessMalformed, RowCall};
 
 mod both;
-mod exact;
-pub mod halves;
-mod sort;
 mod sums;
 
 use both::open_row;
 use refusal::Refusal;
+use sorting::least;
 use sums::collected;
 
 // The count of the entries delivered.
@@ -27,19 +24,19 @@ pub enum Delivery {
     Refused(Refusal),
 }
 
-// The first n columns into the first n places of a buffer; the rest keeps what it had.
-fn put_columns(src: &[u64; 320], n: usize, out: &mut [u64])
-    requires { ⌜ (n ≤ length (now src)) × (n ≤ 320) × (n ≤ length (now out)) ⌝ }
-    ensures { λ r. ⌜ now (out .exit) ≡ take n (now (src .entry)) ++ drop n (now (out .entry)) ⌝ }
+// The first n columns into the first n places of a buffer, or as many as there are columns and places; the rest keeps what it had.
+pub fn put_columns(src: &[u64; 320], n: usize, out: &mut [u64])
+    ensures { λ r. ⌜ now (out .exit) ≡ putInto n (now (src .entry)) (now (out .entry)) ⌝ }
 {
+    let count = least(least(n, 320), out.len());
     let mut i = 0usize;
-    while i < n {
+    while i < count {
         out[i] = src[i];
         i += 1;
     }
 }
 
-// The same for parts of complex numbers.
+// The first n parts of complex numbers into the first n places of a buffer; the rest keeps what it had.
 fn put_parts(src: &[f64; 320], n: usize, out: &mut [f64])
     requires { ⌜ (n ≤ length (now src)) × (n ≤ 320) × (n ≤ length (now out)) ⌝ }
     ensures { λ r. ⌜ now (out .exit) ≡ take n (now (src .entry)) ++ drop n (now (out .entry)) ⌝ }
@@ -141,29 +138,4 @@ pub fn deliver_both(
         &mut c,
     );
     handed_over(&a, &b, &c, count, out_columns, out_re, out_im)
-}
-
-// The exact row of the first n contributions. One with a part over 2^52 in size is refused, so that the sum of 320 of them fits 64 bits.
-pub fn deliver_exact(
-    columns: &[u64; 320],
-    re: &[i64; 320],
-    im: &[i64; 320],
-    n: usize,
-    out_columns: &mut [u64],
-    out_re: &mut [i64],
-    out_im: &mut [i64],
-) -> Delivery
-    ensures { λ r. ⌜ ExactCall (exactAnswer (exactEntries (now (columns .entry)) (now (re .entry)) (now (im .entry)) n)) (saidDelivery r) (now («out_columns» .entry)) (now («out_columns» .exit)) (now («out_re» .entry)) (now («out_re» .exit)) (now («out_im» .entry)) (now («out_im» .exit)) ⌝ }
-{
-    if n > 320 {
-        return Delivery::Refused(Refusal::Malformed);
-    }
-    if !exact::all_small(re, im, n) {
-        return Delivery::Refused(Refusal::Malformed);
-    }
-    let mut a = [0u64; 320];
-    let mut b = [0i64; 320];
-    let mut c = [0i64; 320];
-    let count = exact::collected(columns, re, im, n, &mut a, &mut b, &mut c);
-    exact::handed_over(&a, &b, &c, count, out_columns, out_re, out_im)
 }

@@ -3,12 +3,13 @@ ghost use mathlib.Core.Path.{_≡_};
 ghost use mathlib.Core.List.{[], _∷_, _++_, map};
 ghost use Prim.Native.Nat.{_+_, _≤_, _<_};
 ghost use lib.ListN.{take};
-ghost use Rattle.rows.specs.Sorting.{Places, neighboursAdded};
-ghost use Rattle.rows.specs.Numbers.{floats};
+ghost use Rattle.sorting.specs.Sorting.{Places};
+ghost use Rattle.rows.specs.Neighbours.{neighboursAdded};
+ghost use Rattle.rows.specs.Floats.{floats};
 ghost use Rattle.rows.specs.Placing.{keptBy, rowIn};
 ghost use Rattle.rows.specs.Buffers.{Long, floatParts, valueIn, entryIn, entries};
-use crate::sort::sorted_places;
 use complex::Complex;
+use sorting::sorted_places;
 
 // The value of a contribution.
 fn value_at(re: &[f64; 320], im: &[f64; 320], at: usize) -> Complex

@@ -14,14 +14,14 @@ use Rattle.letters.specs.Matrices.{pauli, decoherence, lettersOf, matrix}
 use Rattle.letters.specs.declared.Kind.the-variants.{Pauli, Decoherence}
 use Rattle.letters.proofs.TestLaws.{and-true, and-left, and-right, every-intro}
 use Rattle.letters.proofs.GaussLaws.{ring, ⊕-comm, ⊕-cancel, 𝟘-⊕, ⊗-𝟘, ⊗-assoc, ⊗-left-comm, ⊗-comm, ⊗-cancel, i⁻⊗i⁺}
-use Rattle.products.specs.Record.{letterAt, sameItems}
-use Rattle.products.specs.declared.items.Items.{Items}
-use Rattle.products.proofs.SameLaws.{same-self, same-equal}
+use Rattle.items.specs.Record.{letterAt, sameItems}
+use Rattle.items.specs.declared.Items.{Items}
+use Rattle.items.proofs.SameLaws.{same-self, same-equal}
 use Rattle.terms.specs.Keyed.{each}
 use Rattle.terms.specs.Gaussian.{weighted}
 use Rattle.terms.proofs.KeyedLaws.{all-each}
 use Rattle.terms.proofs.SummedLaws.{summed-on, summed-same, summed-zero, summed-scale}
-use Rattle.rows.specs.Equation.{δ, 𝟚, commutator, dissipator}
+use Rattle.master_equation.specs.Equation.{δ, 𝟚, commutator, dissipator}
 use Rattle.superoperator.specs.Systems.{Hamiltonian, Noise, samePair, entryOf, SameEntries, SameTerms, onSpins, pairOnSpins, Sound}
 use Rattle.superoperator.proofs.InnerLaws.{inner, probe, probe-below, probe-add, probe-weighted}
 use Rattle.superoperator.proofs.Orthogonality.{dimension, 𝟚-cancel, dimension-cancel, cond-⊗, trace-full}

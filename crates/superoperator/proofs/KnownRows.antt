@@ -14,9 +14,9 @@ use Rattle.letters.specs.Gauss.{G, 𝟘, _⊕_, eqG}
 use Rattle.letters.proofs.GaussLaws.{eqG-same}
 use Rattle.terms.specs.Keyed.{each}
 use Rattle.terms.proofs.KeyedLaws.{each-cons, each-head, each-tail}
-use Rattle.rows.specs.Numbers.{halves}
+use Rattle.master_equation.specs.Numbers.{halves}
 use Rattle.rows.specs.Placing.{rowOf, nonzero, keptBy, rowIn}
-use Rattle.rows.specs.Sums.{Ascending, Below, contributionsTo, sumAt, valueAt}
+use Rattle.master_equation.specs.Sums.{Ascending, Below, contributionsTo, sumAt, valueAt}
 use Rattle.rows.proofs.PlacingLaws.{none-before, same-numbers, row-below, rowIn-ascending, rowIn-value}
 
 -- no number is zero

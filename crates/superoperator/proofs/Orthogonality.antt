@@ -19,7 +19,7 @@ use Rattle.letters.proofs.SumLaws.{Σ-cong, Π-cong-below, Π-mul, conj-Π}
 use Rattle.letters.proofs.BitLaws.{line-sum}
 use Rattle.letters.proofs.TableLaws.{closed}
 use Rattle.letters.proofs.Letterings.{identity-matrix}
-use Rattle.rows.specs.Equation.{δ, 𝟚}
+use Rattle.master_equation.specs.Equation.{δ, 𝟚}
 use Rattle.superoperator.proofs.InnerLaws.{inner, inner-below}
 
 -- ---- the factor 2^n

@@ -5,8 +5,8 @@ use Prim.Native.Nat.{ℕ}
 use Rattle.letters.specs.Gauss.{G, 𝟘, −𝟙, i⁺, i⁻, _⊕_, _⊗_, conj}
 use Rattle.letters.specs.Matrices.{pauli, decoherence, matrix}
 use Rattle.letters.proofs.GaussLaws.{ring}
-use Rattle.rows.specs.Equation.{δ, 𝟚, commutator, adjointProduct, dissipator}
-use Rattle.rows.proofs.SparseLaws.{decoherence-real}
+use Rattle.master_equation.specs.Equation.{δ, 𝟚, commutator, adjointProduct, dissipator}
+use Rattle.master_equation.proofs.SparseLaws.{decoherence-real}
 use Rattle.superoperator.proofs.InnerLaws.{inner, inner-cong, probe, probe-add, probe-scale, probe-tensor}
 
 module _ (n : ℕ) (A B : ℕ → ℕ → G) (noneA : inner n A δ ≡ 𝟘) where

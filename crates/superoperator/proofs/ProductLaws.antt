@@ -12,13 +12,13 @@ use Rattle.letters.specs.Gauss.{𝟘, 𝟙, _⊗_}
 use Rattle.letters.specs.Matrices.{lettersOf, matrix}
 use Rattle.letters.specs.declared.Kind.{Kind}
 use Rattle.letters.proofs.TestLaws.{and-left, and-right, bool-ext, every-at, every-intro, every-false}
-use Rattle.products.specs.Lists.{at}
-use Rattle.products.specs.Record.{valid, letterAt, reach, sameItems}
-use Rattle.products.specs.declared.items.Items.{Items}
-use Rattle.products.proofs.RecordLaws.{valid-at, letter-code, letter-here, letter-beyond, site-below-reach}
-use Rattle.products.proofs.SameLaws.{same-self, same-equal}
-use Rattle.products.proofs.Canonical.{extensional}
-use Rattle.rows.specs.Equation.{δ}
+use Rattle.items.specs.Lists.{at}
+use Rattle.items.specs.Record.{valid, letterAt, reach, sameItems}
+use Rattle.items.specs.declared.Items.{Items}
+use Rattle.items.proofs.RecordLaws.{valid-at, letter-code, letter-here, letter-beyond, site-below-reach}
+use Rattle.items.proofs.SameLaws.{same-self, same-equal}
+use Rattle.items.proofs.Canonical.{extensional}
+use Rattle.master_equation.specs.Equation.{δ}
 use Rattle.superoperator.specs.Systems.{onSpins}
 use Rattle.superoperator.proofs.InnerLaws.{inner}
 use Rattle.superoperator.proofs.Orthogonality.{dimension, orthogonal, trace-none}

@@ -7,12 +7,12 @@ use mathlib.Core.List.{List}
 use Prim.Native.Nat.{ℕ, _^_, _<_}
 use lib.Dec.{leb, eqb}
 use Rattle.letters.specs.Gauss.{G, 𝟘, _⊕_, eqG}
-use Rattle.products.specs.Record.{valid, letterAt, reach, sameItems}
-use Rattle.products.specs.declared.items.Items.{Items}
+use Rattle.items.specs.Record.{valid, letterAt, reach, sameItems}
+use Rattle.items.specs.declared.Items.{Items}
 use Rattle.terms.specs.Keyed.{has, each}
 use Rattle.terms.specs.Setting.{coefficientAt}
 use Rattle.terms.specs.Gaussian.{gaussian, weighted}
-use Rattle.rows.specs.Equation.{commutator, dissipator}
+use Rattle.master_equation.specs.Equation.{commutator, dissipator}
 
 -- the terms c P of a Hamiltonian
 abbrev pub Hamiltonian : Type 0

@@ -1,19 +1,42 @@
--- Laws of marks: no number is marked at first, one number more, and a number whose place has no mark is none of those seen.
+-- Laws of marks: no number is marked at first, one number more, and a number whose place has no mark is none of those seen, so that a number
+-- that is taken for new by its mark is new.
 -- Assumes nothing.
-use Prim.Native.Nat.{ℕ, _+_, _≤_, _<_}
+use Prim.Native.Nat.{ℕ, _+_, _≤_, _<_, min}
 use native.Mathlib.Nat.{eq-or-lt-of-le}
 use native.Mathlib.Decide.{ℕ-discrete}
 use native.Mathlib.Omega.{arith}
-use mathlib.Core.Path.{_≡_, sym, ap, _∙_}
-use mathlib.Core.Bool.{Bool, true, not}
+use mathlib.Core.Path.{_≡_, refl, sym, ap, _∙_}
+use mathlib.Core.Bool.{Bool, true, not, true≢false}
 use mathlib.Core.List.{List}
 use mathlib.Core.Logic.{⊎-elim}
+use lib.Dec.{eqb}
 use lib.ListN.{length, getD, set}
 use lib.Seq.{getD-set-same, getD-set-other}
+use borrow.Author.Tests.{eq-eqb, ne-eqb, eqb-true}
 use Rattle.letters.specs.Tests.{every}
-use Rattle.letters.proofs.TestLaws.{every-intro}
-use Rattle.terms.specs.Marks.{Marked}
+use Rattle.letters.proofs.TestLaws.{and-left, and-right, every-intro}
+use Rattle.terms.specs.Marks.{markOf, markOfPair, sameTwo, newByMarks}
+use Rattle.terms.specs.Setting.{mostTerms}
 use Rattle.terms.proofs.KeyedLaws.{by-test}
+
+-- ---- a number taken for new among the first n: its place is k
+
+module _ {B : Type 0} (place : B → ℕ) (same : B → B → Bool) (marks : List ℕ) (read : ℕ → B) (n : ℕ) (x : B) where
+  -- the place has no mark
+  pub new-unmarked : {k : ℕ} → k ≡ place x → getD marks k 0 ≡ 0 → newByMarks place same marks read n x ≡ true
+  unfolding newByMarks
+  new-unmarked {k} is e = rw (eq-eqb (getD marks (place x) 0) 0 (ap (λ j. getD marks j 0) (sym is) ∙ e))
+
+  -- it has one: m numbers are compared
+  pub new-compared : {m k : ℕ} → m ≡ n → k ≡ place x → (getD marks k 0 ≡ 0 → ⊥) → newByMarks place same marks read n x ≡ every m (λ j. not (same (read j) x))
+  unfolding newByMarks
+  new-compared {m} {k} all is e = rw (all, ne-eqb (getD marks (place x) 0) 0 (λ z. e (ap (λ j. getD marks j 0) is ∙ z)))
+
+-- ---- marked numbers
+
+-- the first n numbers that `read` gives are marked
+pub record Marked {B : Type 0} (place : B → ℕ) (marks : List ℕ) (read : ℕ → B) (n : ℕ) : Type 0 where
+  pub mark : (j : ℕ) → j < n → getD marks (place (read j)) 0 ≡ 1
 
 module _ {B : Type 0} {place : B → ℕ} {marks : List ℕ} {read : ℕ → B} where
   pub marked-none : Marked place marks read 0
@@ -46,10 +69,35 @@ module _ {B : Type 0} {place : B → ℕ} {marks : List ℕ} {read : ℕ → B} 
             ]
 
     -- numbers that are the same have one place
-    pub unmarked-new : (same : B → B → Bool) → ((a b : B) → same a b ≡ true → place a ≡ place b) → (x : B) {k : ℕ} → k ≡ place x → getD marks k 0 ≡ 0
+    unmarked-new : (same : B → B → Bool) → ((a b : B) → same a b ≡ true → place a ≡ place b) → (x : B) {k : ℕ} → k ≡ place x → getD marks k 0 ≡ 0
         → true ≡ every i (λ j. not (same (read j) x))
     unmarked-new same one x {k} is e =
         sym (every-intro i (λ j. not (same (read j) x))
         (λ j h. ap not (by-test (same (read j) x)
         (λ t. absurd (let z : _≡_ {A = ℕ} 1 0 = sym (m .mark j h) ∙ ap (λ n. getD marks n 0) (one (read j) x t ∙ sym is) ∙ e in omega arith))
         (λ f. f))))
+
+    new-is : i ≤ mostTerms → (same : B → B → Bool) → ((a b : B) → same a b ≡ true → place a ≡ place b) → (x : B)
+        → newByMarks place same marks read (min i mostTerms) x ≡ every i (λ j. not (same (read j) x))
+    new-is few same one x =
+        let least : min i mostTerms ≡ i = omega arith in
+        rw least
+        (by-test (eqb (getD marks (place x) 0) 0)
+        (λ t.
+        let e = eqb-true (getD marks (place x) 0) 0 t in
+        new-unmarked place same marks read i x refl e ∙ unmarked-new same one x refl e)
+        (λ f. new-compared place same marks read i x refl refl (λ e. true≢false (sym (eq-eqb (getD marks (place x) 0) 0 e) ∙ f))))
+
+-- ---- the two kinds of numbers: what is taken for new is new
+
+pub number-new : {marks : List ℕ} {read : ℕ → ℕ} {i : ℕ} → Marked markOf marks read i → i ≤ mostTerms → (x : ℕ)
+    → newByMarks markOf eqb marks read (min i mostTerms) x ≡ every i (λ j. not (eqb (read j) x))
+number-new m few x = new-is m few eqb (λ a b e. ap markOf (eqb-true a b e)) x
+
+pub pair-new : {marks : List ℕ} {read : ℕ → ℕ × ℕ} {i : ℕ} → Marked markOfPair marks read i → i ≤ mostTerms → (x : ℕ × ℕ)
+    → newByMarks markOfPair sameTwo marks read (min i mostTerms) x ≡ every i (λ j. not (sameTwo (read j) x))
+pair-new m few x =
+    new-is m few sameTwo (λ a b e.
+    let left = eqb-true (a .0) (b .0) (and-left (eqb (a .0) (b .0)) (eqb (a .1) (b .1)) e) in
+    let right = eqb-true (a .1) (b .1) (and-right (eqb (a .0) (b .0)) (eqb (a .1) (b .1)) e) in
+    λ k. markOfPair (left k, right k)) x

@@ -2,13 +2,13 @@
 -- over a gap. A set has its count n and its places t. Then what the place that a search answered says of the terms, and places that a test takes
 -- for blanks.
 -- Assumes nothing.
-use Prim.Native.Nat.{ℕ, _+_, _-_, _≤_, _<_}
+use Prim.Native.Nat.{ℕ, _+_, _-_, _≤_, _<_, min}
 use native.Mathlib.Nat.{le-antisymm}
 use native.Mathlib.Omega.{arith}
 use mathlib.Core.Path.{_≡_, refl, sym, ap, _∙_}
 use mathlib.Core.Bool.{Bool, true, false, not}
 use mathlib.Core.List.{List, [], _∷_, _++_, map}
-use lib.ListN.{length, take, drop, getD, set, replicate, length-drop}
+use lib.ListN.{length, take, drop, getD, set, replicate, length-take, length-drop}
 use lib.Seq.{getD-take, length-take-le}
 use Rattle.terms.specs.Keyed.{firstAt, held, padded, omitted, each}
 use Rattle.terms.specs.Kind.{Terms}
@@ -18,31 +18,34 @@ use Rattle.terms.proofs.KeyedLaws.{each-head, each-tail, each-passes, e
 use Rattle.terms.proofs.ClosingLaws.{length-omitted, close-turn, open-up, closed-up}
 use Rattle.terms.proofs.SettingLaws.{Held, held-past}
 
--- ---- the search: the places from `from` on that are below i do not have the key
+-- as many terms as the count says, and at most as many as there are places
+held-long : {A : Type 0} (n : ℕ) (t : List A) → length t ≡ mostTerms → length (take n t) ≡ min n mostTerms
+held-long n t whole = length-take n t ∙ ap (min n) whole
+
+-- ---- the search: the places from `from` on that are below i do not have the key. A count past the places counts as their end
 pub record Searched {A : Type 0} (test : A → Bool) (n : ℕ) (t : List A) (from i : ℕ) : Type 0 where
-  pub few : n ≤ length t
-  pub within : i ≤ n
+  pub whole : length t ≡ mostTerms
   pub place : from + firstAt test (drop from (take n t)) ≡ i + firstAt test (drop i (take n t))
 
 module _ {A : Type 0} {test : A → Bool} {n : ℕ} {t : List A} {from : ℕ} where
-  pub searched-none : n ≤ length t → from ≤ n → Searched test n t from from
-  searched-none few h = record { few = few; within = h; place = refl }
+  pub searched-none : length t ≡ mostTerms → Searched test n t from from
+  searched-none whole = record { whole = whole; place = refl }
 
-  pub searched-more : {i : ℕ} (d : A) → Searched test n t from i → i < n → test (getD t i d) ≡ false → Searched test n t from (i + 1)
+  pub searched-more : {i : ℕ} (d : A) → Searched test n t from i → i < min n mostTerms → test (getD t i d) ≡ false → Searched test n t from (i + 1)
   searched-more {i} d s h e =
-      let long = length-take-le n t (s .few) in
-      let p = skips test (take n t) i d (omega arith) (ap test (getD-take n t i d h) ∙ e) in
-      record { few = s .few; within = omega arith; place = omega (arith, s .place) }
+      let long = held-long n t (s .whole) in
+      let p = skips test (take n t) i d (omega arith) (ap test (getD-take n t i d (omega arith)) ∙ e) in
+      record { whole = s .whole; place = omega (arith, s .place) }
 
-  pub searched-found : {i : ℕ} (d : A) → Searched test n t from i → i < n → test (getD t i d) ≡ true → i ≡ from + firstAt test (drop from (take n t))
+  pub searched-found : {i : ℕ} (d : A) → Searched test n t from i → i < min n mostTerms → test (getD t i d) ≡ true → i ≡ from + firstAt test (drop from (take n t))
   searched-found {i} d s h e =
-      let long = length-take-le n t (s .few) in
-      let p = passes test (take n t) i d (omega arith) (ap test (getD-take n t i d h) ∙ e) in
+      let long = held-long n t (s .whole) in
+      let p = passes test (take n t) i d (omega arith) (ap test (getD-take n t i d (omega arith)) ∙ e) in
       omega (arith, s .place)
 
-  pub searched-done : {i : ℕ} → Searched test n t from i → n ≤ i → i ≡ from + firstAt test (drop from (take n t))
+  pub searched-done : {i : ℕ} → Searched test n t from i → min n mostTerms ≤ i → i ≡ from + firstAt test (drop from (take n t))
   searched-done {i} s h =
-      let long = length-take-le n t (s .few) in
+      let long = held-long n t (s .whole) in
       let p = none-left test (take n t) i (omega arith) in
       omega (arith, s .place)
 
@@ -114,32 +117,32 @@ module _ {A : Type 0} {at n : ℕ} {t : List A} where
       omega (arith, s .past, s .within)
 
 -- ---- the place i that a search of all terms answered, in a set of n terms
-module _ {K N : Type 0} (S : Terms K N) (k : K) (n : ℕ) (t : List (S .Term)) (few : n ≤ length t) (i : ℕ) (f : i ≡ firstAt (keyed S k) (take n t)) where
+module _ {K N : Type 0} (S : Terms K N) (k : K) (n : ℕ) (t : List (S .Term)) (whole : length t ≡ mostTerms) (i : ℕ) (f : i ≡ firstAt (keyed S k) (take n t)) where
   -- below the count it is the key's
-  place-held : (d : S .Term) → i < n → held (keyed S k) (take n t) ≡ getD t i d ∷ []
+  place-held : (d : S .Term) → i < min n mostTerms → held (keyed S k) (take n t) ≡ getD t i d ∷ []
   place-held d h =
-      let long = length-take-le n t few in
+      let long = held-long n t whole in
       there (keyed S k) d (take n t) (omega arith) .held
       ∙ ap (λ (j : ℕ). getD (take n t) j d ∷ []) (sym f)
-      ∙ ap (λ (x : S .Term). x ∷ []) (getD-take n t i d h)
+      ∙ ap (λ (x : S .Term). x ∷ []) (getD-take n t i d (omega arith))
 
-  pub place-value : {B : Type 0} (g : S .Term → B) (d : S .Term) → i < n → g (getD t i d) ∷ [] ≡ map g (held (keyed S k) (take n t))
+  pub place-value : {B : Type 0} (g : S .Term → B) (d : S .Term) → i < min n mostTerms → g (getD t i d) ∷ [] ≡ map g (held (keyed S k) (take n t))
   place-value g d h = ap (map g) (sym (place-held d h))
 
-  pub place-coefficient : (d : S .Term) → i < n → S .coefficient (getD t i d) ≡ coefficientAt S k (take n t)
+  pub place-coefficient : (d : S .Term) → i < min n mostTerms → S .coefficient (getD t i d) ≡ coefficientAt S k (take n t)
   unfolding coefficientAt
   place-coefficient d h = rw (place-held d h) (sym (headOr-one (S .coefficient) (S .zero) (getD t i d)))
 
   -- and else the key is free
-  free-held : n ≤ i → held (keyed S k) (take n t) ≡ []
+  free-held : min n mostTerms ≤ i → held (keyed S k) (take n t) ≡ []
   free-held h =
-      let long = length-take-le n t few in
+      let long = held-long n t whole in
       nowhere (keyed S k) (take n t) (le-antisymm (firstAt-le (keyed S k) (take n t)) (omega arith)) .held
 
-  pub free-value : {B : Type 0} (g : S .Term → B) → n ≤ i → [] ≡ map g (held (keyed S k) (take n t))
+  pub free-value : {B : Type 0} (g : S .Term → B) → min n mostTerms ≤ i → [] ≡ map g (held (keyed S k) (take n t))
   free-value g h = ap (map g) (sym (free-held h))
 
-  pub free-coefficient : n ≤ i → S .zero ≡ coefficientAt S k (take n t)
+  pub free-coefficient : min n mostTerms ≤ i → S .zero ≡ coefficientAt S k (take n t)
   unfolding coefficientAt
   free-coefficient h = rw (free-held h) (sym (headOr-none (S .coefficient) (S .zero)))
 

@@ -16,7 +16,7 @@ use borrow.Author.Tests.{lt-ltb, le-ltb, ltb-true, not-true}
 use Rattle.terms.specs.Keyed.{firstAt, held, has, written, struck, padded, omitted, each}
 use Rattle.terms.specs.Kind.{Terms}
 use Rattle.terms.specs.Setting.{mostTerms, keyed, write, hasRoom, added, addAll}
-use Rattle.terms.proofs.KeyedLaws.{There, Nowhere, there, nowhere, firstAt-le, length-struck, length-written, length-replaced, has-struck, has-written, each-struck, each-written, All, all-head, all-tail, all-of, by-test, has-fewer}
+use Rattle.terms.proofs.KeyedLaws.{There, Nowhere, there, nowhere, firstAt-le, length-struck, length-written, length-replaced, has-struck, has-written, each-struck, each-written, All, all-head, all-tail, by-test, has-fewer}
 use Rattle.terms.proofs.ClosingLaws.{padded-set, padded-snoc, padded-take}
 
 -- the places of a set with count n: n terms, and blanks past them
@@ -299,10 +299,3 @@ module _ {K N : Type 0} (S : Terms K N) where
       by-test (roomFor S t l)
       (λ r. addAll-keeps P Q step ts (addOne S t l) l′ (all-tail Q t ts q) (step t l (all-head Q t ts q) h r) (sym (addAll-room t ts l r) ∙ e))
       (λ r. absurd (none-some l′ (sym (addAll-full t ts l r) ∙ e)))
-
-  -- there are at most the most terms
-  pub addAll-length : (ts l l′ : List (S .Term)) → length l ≤ mostTerms → addAll S ts l ≡ some l′ → length l′ ≤ mostTerms
-  addAll-length ts l l′ h e =
-      addAll-keeps (λ (m : List (S .Term)). length m ≤ mostTerms) (λ t. Unit {0})
-      (λ t m q h r. write-length (S .key t) (added S (S .key t) (S .coefficient t) m) m r h)
-      ts l l′ (all-of (λ t. Unit {0}) (λ t. tt) ts) h e

@@ -1,9 +1,11 @@
 -- Marks of numbers that were seen: an array with 1 at the place of each, so that a number whose place has 0 was not seen.
 -- Only helpers of the entries cite them.
-use Prim.Native.Nat.{ℕ, _+_, _*_, _%_, _<_}
-use mathlib.Core.Path.{_≡_}
+use Prim.Native.Nat.{ℕ, _+_, _*_, _%_}
+use mathlib.Core.Bool.{Bool, not, _&&_, _||_}
 use mathlib.Core.List.{List}
+use lib.Dec.{eqb}
 use lib.ListN.{getD}
+use Rattle.letters.specs.Tests.{every}
 
 -- the place of a number's mark, and of two numbers'
 abbrev pub markOf : ℕ → ℕ
@@ -12,6 +14,10 @@ markOf x = x % 251
 abbrev pub markOfPair : ℕ × ℕ → ℕ
 markOfPair x = (x .0 % 251 + 5 * (x .1 % 251)) % 251
 
--- the first n numbers that `read` gives are marked
-pub record Marked {B : Type 0} (place : B → ℕ) (marks : List ℕ) (read : ℕ → B) (n : ℕ) : Type 0 where
-  pub mark : (j : ℕ) → j < n → getD marks (place (read j)) 0 ≡ 1
+-- two numbers are two others
+abbrev pub sameTwo : ℕ × ℕ → ℕ × ℕ → Bool
+sameTwo x y = eqb (x .0) (y .0) && eqb (x .1) (y .1)
+
+-- x is taken for new among the first n numbers that `read` gives: its place has no mark, or none of them is the same
+unfoldable pub newByMarks : {B : Type 0} → (B → ℕ) → (B → B → Bool) → List ℕ → (ℕ → B) → ℕ → B → Bool
+newByMarks place same marks read n x = eqb (getD marks (place x) 0) 0 || every n (λ j. not (same (read j) x))

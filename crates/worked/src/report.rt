@@ -2,9 +2,9 @@
 ghost use mathlib.Core.Path.{_≡_};
 ghost use Prim.Native.Nat.{_≤_};
 ghost use lib.IntN.{natAbs};
-use open_system::PauliLindbladOpenSystem;
-use open_system::exact_row::exact_row;
-use rows::Delivery;
+use spins::Delivery;
+use spins::PauliLindbladOpenSystem;
+use spins::exact_row;
 
 const SPINS: u32 = 1;
 

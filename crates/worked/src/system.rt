@@ -1,10 +1,10 @@
 // The system whose rows are printed, made by the entries that callers have.
-use complex::Complex;
-use noise::pauli_noise_operator::PauliLindbladNoiseOperator;
-use open_system::PauliLindbladOpenSystem;
-use operators::pauli_hamiltonian::PauliHamiltonian;
-use products::decoherence_product::DecoherenceProduct;
-use products::pauli_product::PauliProduct;
+use spins::Complex;
+use spins::DecoherenceProduct;
+use spins::PauliHamiltonian;
+use spins::PauliLindbladNoiseOperator;
+use spins::PauliLindbladOpenSystem;
+use spins::PauliProduct;
 
 // The letter codes.
 const X: u8 = 1;

@@ -1,15 +1,23 @@
 -- The invariant `Copied` says that the first i elements are the source's and the rest is as it was.
 use Prim.Native.Nat.{_-_}
 use native.Mathlib.Omega.{arith}
-use Rattle.rows.proofs.DeliveryLaws.{Copied, copied-none, copied-more, copied-done}
+use borrow.Author.Needs.{needs}
+use Rattle.rows.specs.Buffers.{firstNumbers}
+use Rattle.rows.proofs.DeliveryLaws.{Copied, copied-none, numbers-more, numbers-done}
 use Rattle.rows.proofs.put_columns.Statement.{statement}
 use Rattle.rows.proofs.put_columns.Tie as tie
 
 abbrev Inv-loop : tie.InvT-loop
-Inv-loop src n out₀ i₀ out i = Copied out₀ src n i out
+Inv-loop src n out₀ count i₀ out i = Copied out₀ (firstNumbers src count) count i out
 
 abbrev μ-loop : tie.MeasureT-loop
-μ-loop src n out₀ i₀ out i = n - i
+μ-loop src n out₀ count i₀ out i = count - i
+
+least-requires : tie.Need-least-requires Inv-loop μ-loop
+least-requires c κs = search needs
+
+least-requires-2 : tie.Need-least-requires-2 Inv-loop μ-loop
+least-requires-2 c κs = search needs
 
 loop-holds : tie.Need-loop-holds Inv-loop μ-loop
 loop-holds c = copied-none _ _ _
@@ -35,13 +43,13 @@ loop-less c = omega arith
 loop-again : tie.Need-loop-again Inv-loop μ-loop
 loop-again c =
     let l = c .before .before in
-    copied-more _ (l .loop .inv) (c .before .loop-test .taken) (l .before .pre .2) (l .before .pre .0)
+    numbers-more (l .before .before .before .before .args .src .now) (l .loop .inv) (c .before .loop-test .taken) (omega arith)
 
 same-length : tie.Need-same-length Inv-loop μ-loop
 same-length c = c .before .loop .inv .long
 
 returns : tie.Need-returns Inv-loop μ-loop
-returns c = copied-done (c .before .loop .inv) (c .loop-test .left)
+returns c = numbers-done _ _ (c .before .before .before .least .ensures) (c .before .before .least2 .ensures) (c .before .loop .inv) (c .loop-test .left)
 
 pub put-columns-spec : {M : Type 1} → statement M
 put-columns-spec =
@@ -49,6 +57,8 @@ put-columns-spec =
     (tie.spec
     Inv-loop
     μ-loop
+    least-requires
+    least-requires-2
     loop-holds
     mul-out
     element-copy-out-out

@@ -10,8 +10,8 @@ Inv-loop kind next list n set₀ refused₀ i₀ set refused i = i ≤ 64
 abbrev μ-loop : tie.MeasureT-loop
 μ-loop kind next list n set₀ refused₀ i₀ set refused i = 64 - i
 
-empty-set-requires : tie.Need-empty-set-requires Inv-loop μ-loop
-empty-set-requires c κs = search needs
+new-requires : tie.Need-new-requires Inv-loop μ-loop
+new-requires c κs = search needs
 
 loop-holds : tie.Need-loop-holds Inv-loop μ-loop
 loop-holds c = search needs
@@ -49,7 +49,7 @@ built-spec =
     (tie.spec
     Inv-loop
     μ-loop
-    empty-set-requires
+    new-requires
     loop-holds
     mul-t
     element-copy-out-t

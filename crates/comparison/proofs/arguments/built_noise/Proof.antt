@@ -40,6 +40,9 @@ loop-again c = search needs
 returns : tie.Need-returns Inv-loop μ-loop
 returns c = search needs
 
+returns-2 : tie.Need-returns-2 Inv-loop μ-loop
+returns-2 c = search needs
+
 pub built-noise-spec : {M : Type 1} → statement M
 built-noise-spec =
     tie.close
@@ -55,4 +58,5 @@ built-noise-spec =
     add-i
     loop-less
     loop-again
-    returns)
+    returns
+    returns-2)

@@ -10,8 +10,8 @@ Inv-loop s at items₀ n next₀ lowest₀ i₀ items next lowest i = i ≤ n
 abbrev μ-loop : tie.MeasureT-loop
 μ-loop s at items₀ n next₀ lowest₀ i₀ items next lowest i = n - i
 
-empty-requires : tie.Need-empty-requires Inv-loop μ-loop
-empty-requires c κs = search needs
+new-requires : tie.Need-new-requires Inv-loop μ-loop
+new-requires c κs = search needs
 
 byte-requires : tie.Need-byte-requires Inv-loop μ-loop
 byte-requires c κs = search needs
@@ -55,7 +55,7 @@ product-spec =
     (tie.spec
     Inv-loop
     μ-loop
-    empty-requires
+    new-requires
     byte-requires
     wide-requires
     returns

@@ -10,8 +10,8 @@ Inv-loop s at list₀ n next₀ i₀ list next i = i ≤ n
 abbrev μ-loop : tie.MeasureT-loop
 μ-loop s at list₀ n next₀ i₀ list next i = n - i
 
-empty-set-requires : tie.Need-empty-set-requires Inv-loop μ-loop
-empty-set-requires c κs = search needs
+new-requires : tie.Need-new-requires Inv-loop μ-loop
+new-requires c κs = search needs
 
 byte-requires : tie.Need-byte-requires Inv-loop μ-loop
 byte-requires c κs = search needs
@@ -55,7 +55,7 @@ terms-spec =
     (tie.spec
     Inv-loop
     μ-loop
-    empty-set-requires
+    new-requires
     byte-requires
     wide-requires
     returns

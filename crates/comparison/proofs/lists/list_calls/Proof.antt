@@ -16,8 +16,8 @@ byte-requires c κs = search needs
 new-requires : tie.Need-new-requires Inv-loop μ-loop
 new-requires c κs = search needs
 
-empty-set-requires : tie.Need-empty-set-requires Inv-loop μ-loop
-empty-set-requires c κs = search needs
+new-requires-2 : tie.Need-new-requires-2 Inv-loop μ-loop
+new-requires-2 c κs = search needs
 
 loop-holds : tie.Need-loop-holds Inv-loop μ-loop
 loop-holds c = search needs
@@ -48,7 +48,7 @@ list-calls-spec =
     μ-loop
     byte-requires
     new-requires
-    empty-set-requires
+    new-requires-2
     loop-holds
     list-call-requires
     worse-requires

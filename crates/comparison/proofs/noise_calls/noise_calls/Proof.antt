@@ -5,16 +5,16 @@ use Rattle.comparison.proofs.noise_calls.noise_calls.Statement.{stateme
 use Rattle.comparison.proofs.noise_calls.noise_calls.Tie as tie
 
 abbrev Inv-loop : tie.InvT-loop
-Inv-loop s at n set₀ verdict₀ next₀ i₀ set verdict next i = i ≤ n
+Inv-loop s at n operator₀ verdict₀ next₀ i₀ operator verdict next i = i ≤ n
 
 abbrev μ-loop : tie.MeasureT-loop
-μ-loop s at n set₀ verdict₀ next₀ i₀ set verdict next i = n - i
+μ-loop s at n operator₀ verdict₀ next₀ i₀ operator verdict next i = n - i
 
 byte-requires : tie.Need-byte-requires Inv-loop μ-loop
 byte-requires c κs = search needs
 
-empty-set-requires : tie.Need-empty-set-requires Inv-loop μ-loop
-empty-set-requires c κs = search needs
+new-requires : tie.Need-new-requires Inv-loop μ-loop
+new-requires c κs = search needs
 
 loop-holds : tie.Need-loop-holds Inv-loop μ-loop
 loop-holds c = search needs
@@ -44,7 +44,7 @@ noise-calls-spec =
     Inv-loop
     μ-loop
     byte-requires
-    empty-set-requires
+    new-requires
     loop-holds
     noise-call-requires
     worse-requires

@@ -4,9 +4,7 @@ use mathlib.Core.Path.{ap, sym, _∙_}
 use borrow.Author.Needs.{needs}
 use Rattle.letters.specs.Matrices.{lettersOf}
 use Rattle.letters.specs.Answers.{saidLetter, asSign}
-use Rattle.letters.proofs.single_decoherence_operator.hermitian_conjugate.Statement.{
-  statement,
-}
+use Rattle.letters.proofs.single_decoherence_operator.hermitian_conjugate.Statement.{statement}
 use Rattle.letters.proofs.single_decoherence_operator.hermitian_conjugate.Tie as tie
 
 conjugate-requires : tie.Need-conjugate-requires

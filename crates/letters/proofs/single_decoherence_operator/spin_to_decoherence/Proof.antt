@@ -4,9 +4,7 @@ use mathlib.Core.Path.{ap, sym, _∙_}
 use borrow.Author.Needs.{needs}
 use Rattle.letters.specs.Matrices.{lettersOf}
 use Rattle.letters.specs.Answers.{saidLetter, asComplex}
-use Rattle.letters.proofs.single_decoherence_operator.spin_to_decoherence.Statement.{
-  statement,
-}
+use Rattle.letters.proofs.single_decoherence_operator.spin_to_decoherence.Statement.{statement}
 use Rattle.letters.proofs.single_decoherence_operator.spin_to_decoherence.Tie as tie
 
 convert-requires : tie.Need-convert-requires

@@ -10,8 +10,8 @@ Inv-loop count p₀ site₀ i₀ p site i = i ≤ 31
 abbrev μ-loop : tie.MeasureT-loop
 μ-loop count p₀ site₀ i₀ p site i = 31 - i
 
-empty-requires : tie.Need-empty-requires Inv-loop μ-loop
-empty-requires c κs = search needs
+new-requires : tie.Need-new-requires Inv-loop μ-loop
+new-requires c κs = search needs
 
 loop-holds : tie.Need-loop-holds Inv-loop μ-loop
 loop-holds c = search needs
@@ -43,7 +43,7 @@ all-sites-spec =
     (tie.spec
     Inv-loop
     μ-loop
-    empty-requires
+    new-requires
     loop-holds
     element-write-p
     element-write-p-2

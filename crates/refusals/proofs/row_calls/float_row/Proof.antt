@@ -18,19 +18,19 @@ array-borrow-prefix-columns : tie.Need-array-borrow-prefix-columns
 array-borrow-prefix-columns c = search needs
 
 slice-aggregate-called : tie.Need-slice-aggregate-called
-slice-aggregate-called c = sym (length-take-le _ _ (c .before .before .before .within .ensures))
+slice-aggregate-called c = sym (length-take-le _ _ (c .before .before .before .within .ensures .1))
 
 array-borrow-prefix-re : tie.Need-array-borrow-prefix-re
 array-borrow-prefix-re c = search needs
 
 slice-aggregate-called-2 : tie.Need-slice-aggregate-called-2
-slice-aggregate-called-2 c = sym (length-take-le _ _ (c .before .before .before .within2 .ensures))
+slice-aggregate-called-2 c = sym (length-take-le _ _ (c .before .before .before .within2 .ensures .1))
 
 array-borrow-prefix-im : tie.Need-array-borrow-prefix-im
 array-borrow-prefix-im c = search needs
 
 slice-aggregate-called-3 : tie.Need-slice-aggregate-called-3
-slice-aggregate-called-3 c = sym (length-take-le _ _ (c .before .before .before .within3 .ensures))
+slice-aggregate-called-3 c = sym (length-take-le _ _ (c .before .before .before .within3 .ensures .1))
 
 called-requires : tie.Need-called-requires
 called-requires c κs = search needs
@@ -38,8 +38,14 @@ called-requires c κs = search needs
 count-of-requires : tie.Need-count-of-requires
 count-of-requires c κs = search needs
 
-untouched-requires : tie.Need-untouched-requires
-untouched-requires c κs = search needs
+columns-kept-requires : tie.Need-columns-kept-requires
+columns-kept-requires c κs = search needs
+
+parts-kept-requires : tie.Need-parts-kept-requires
+parts-kept-requires c κs = search needs
+
+parts-kept-requires-2 : tie.Need-parts-kept-requires-2
+parts-kept-requires-2 c κs = search needs
 
 delivered-requires : tie.Need-delivered-requires
 delivered-requires c κs = search needs
@@ -62,6 +68,8 @@ float-row-spec =
     slice-aggregate-called-3
     called-requires
     count-of-requires
-    untouched-requires
+    columns-kept-requires
+    parts-kept-requires
+    parts-kept-requires-2
     delivered-requires
     returns)

@@ -18,19 +18,19 @@ array-borrow-prefix-columns : tie.Need-array-borrow-prefix-columns
 array-borrow-prefix-columns c = search needs
 
 slice-aggregate-exact-row : tie.Need-slice-aggregate-exact-row
-slice-aggregate-exact-row c = sym (length-take-le _ _ (c .before .before .before .within .ensures))
+slice-aggregate-exact-row c = sym (length-take-le _ _ (c .before .before .before .within .ensures .1))
 
 array-borrow-prefix-re : tie.Need-array-borrow-prefix-re
 array-borrow-prefix-re c = search needs
 
 slice-aggregate-exact-row-2 : tie.Need-slice-aggregate-exact-row-2
-slice-aggregate-exact-row-2 c = sym (length-take-le _ _ (c .before .before .before .within2 .ensures))
+slice-aggregate-exact-row-2 c = sym (length-take-le _ _ (c .before .before .before .within2 .ensures .1))
 
 array-borrow-prefix-im : tie.Need-array-borrow-prefix-im
 array-borrow-prefix-im c = search needs
 
 slice-aggregate-exact-row-3 : tie.Need-slice-aggregate-exact-row-3
-slice-aggregate-exact-row-3 c = sym (length-take-le _ _ (c .before .before .before .within3 .ensures))
+slice-aggregate-exact-row-3 c = sym (length-take-le _ _ (c .before .before .before .within3 .ensures .1))
 
 exact-row-requires : tie.Need-exact-row-requires
 exact-row-requires c κs = search needs
@@ -38,8 +38,14 @@ exact-row-requires c κs = search needs
 count-of-requires : tie.Need-count-of-requires
 count-of-requires c κs = search needs
 
-untouched-halves-requires : tie.Need-untouched-halves-requires
-untouched-halves-requires c κs = search needs
+columns-kept-requires : tie.Need-columns-kept-requires
+columns-kept-requires c κs = search needs
+
+halves-kept-requires : tie.Need-halves-kept-requires
+halves-kept-requires c κs = search needs
+
+halves-kept-requires-2 : tie.Need-halves-kept-requires-2
+halves-kept-requires-2 c κs = search needs
 
 delivered-requires : tie.Need-delivered-requires
 delivered-requires c κs = search needs
@@ -62,6 +68,8 @@ halves-row-spec =
     slice-aggregate-exact-row-3
     exact-row-requires
     count-of-requires
-    untouched-halves-requires
+    columns-kept-requires
+    halves-kept-requires
+    halves-kept-requires-2
     delivered-requires
     returns)

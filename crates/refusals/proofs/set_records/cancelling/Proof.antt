@@ -13,8 +13,8 @@ abbrev μ-loop : tie.MeasureT-loop
 value-requires : tie.Need-value-requires Inv-loop μ-loop
 value-requires c κs = search needs
 
-empty-set-requires : tie.Need-empty-set-requires Inv-loop μ-loop
-empty-set-requires c κs = search needs
+new-requires : tie.Need-new-requires Inv-loop μ-loop
+new-requires c κs = search needs
 
 two-items-requires : tie.Need-two-items-requires Inv-loop μ-loop
 two-items-requires c κs = search needs
@@ -71,7 +71,7 @@ cancelling-spec =
     Inv-loop
     μ-loop
     value-requires
-    empty-set-requires
+    new-requires
     two-items-requires
     placed-requires
     two-items-requires-2

@@ -10,8 +10,8 @@ Inv-loop n value s₀ site₀ letter₀ i₀ s site letter i = i ≤ n
 abbrev μ-loop : tie.MeasureT-loop
 μ-loop n value s₀ site₀ letter₀ i₀ s site letter i = n - i
 
-empty-set-requires : tie.Need-empty-set-requires Inv-loop μ-loop
-empty-set-requires c κs = search needs
+new-requires : tie.Need-new-requires Inv-loop μ-loop
+new-requires c κs = search needs
 
 loop-holds : tie.Need-loop-holds Inv-loop μ-loop
 loop-holds c = search needs
@@ -46,7 +46,7 @@ filled-spec =
     (tie.spec
     Inv-loop
     μ-loop
-    empty-set-requires
+    new-requires
     loop-holds
     two-items-requires
     placed-requires

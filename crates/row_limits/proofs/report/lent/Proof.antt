@@ -18,19 +18,19 @@ array-borrow-prefix-columns : tie.Need-array-borrow-prefix-columns
 array-borrow-prefix-columns c = search needs
 
 slice-aggregate-row : tie.Need-slice-aggregate-row
-slice-aggregate-row c = sym (length-take-le _ _ (c .before .before .before .within .ensures))
+slice-aggregate-row c = sym (length-take-le _ _ (c .before .before .before .within .ensures .1))
 
 array-borrow-prefix-re : tie.Need-array-borrow-prefix-re
 array-borrow-prefix-re c = search needs
 
 slice-aggregate-row-2 : tie.Need-slice-aggregate-row-2
-slice-aggregate-row-2 c = sym (length-take-le _ _ (c .before .before .before .within2 .ensures))
+slice-aggregate-row-2 c = sym (length-take-le _ _ (c .before .before .before .within2 .ensures .1))
 
 array-borrow-prefix-im : tie.Need-array-borrow-prefix-im
 array-borrow-prefix-im c = search needs
 
 slice-aggregate-row-3 : tie.Need-slice-aggregate-row-3
-slice-aggregate-row-3 c = sym (length-take-le _ _ (c .before .before .before .within3 .ensures))
+slice-aggregate-row-3 c = sym (length-take-le _ _ (c .before .before .before .within3 .ensures .1))
 
 row-requires : tie.Need-row-requires
 row-requires c κs = search needs
@@ -47,8 +47,14 @@ enum-known-d-2 c = search needs
 print-refusal-requires : tie.Need-print-refusal-requires
 print-refusal-requires c κs = search needs
 
-untouched-requires : tie.Need-untouched-requires
-untouched-requires c κs = search needs
+columns-kept-requires : tie.Need-columns-kept-requires
+columns-kept-requires c κs = search needs
+
+parts-kept-requires : tie.Need-parts-kept-requires
+parts-kept-requires c κs = search needs
+
+parts-kept-requires-2 : tie.Need-parts-kept-requires-2
+parts-kept-requires-2 c κs = search needs
 
 slice-aggregate-write-all : tie.Need-slice-aggregate-write-all
 slice-aggregate-write-all c = search needs
@@ -86,7 +92,9 @@ lent-spec =
     print-count-requires
     enum-known-d-2
     print-refusal-requires
-    untouched-requires
+    columns-kept-requires
+    parts-kept-requires
+    parts-kept-requires-2
     slice-aggregate-write-all
     write-all-requires
     slice-aggregate-write-all-2

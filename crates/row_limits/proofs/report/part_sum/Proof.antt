@@ -13,14 +13,14 @@ abbrev μ-loop : tie.MeasureT-loop
 loop-holds : tie.Need-loop-holds Inv-loop μ-loop
 loop-holds c = search needs
 
-mul-bits : tie.Need-mul-bits Inv-loop μ-loop
-mul-bits c = search needs
+mul-unsigned-bits : tie.Need-mul-unsigned-bits Inv-loop μ-loop
+mul-unsigned-bits c = search needs
 
-element-copy-out-bits : tie.Need-element-copy-out-bits Inv-loop μ-loop
-element-copy-out-bits c = search needs
+element-copy-out-unsigned-bits : tie.Need-element-copy-out-unsigned-bits Inv-loop μ-loop
+element-copy-out-unsigned-bits c = search needs
 
-bits-requires : tie.Need-bits-requires Inv-loop μ-loop
-bits-requires c κs = search needs
+unsigned-bits-requires : tie.Need-unsigned-bits-requires Inv-loop μ-loop
+unsigned-bits-requires c κs = search needs
 
 taken-in-requires : tie.Need-taken-in-requires Inv-loop μ-loop
 taken-in-requires c κs = search needs
@@ -44,9 +44,9 @@ part-sum-spec =
     Inv-loop
     μ-loop
     loop-holds
-    mul-bits
-    element-copy-out-bits
-    bits-requires
+    mul-unsigned-bits
+    element-copy-out-unsigned-bits
+    unsigned-bits-requires
     taken-in-requires
     add-i
     loop-less

@@ -10,8 +10,8 @@ Inv-loop seed p₀ site₀ p site = site ≤ 31
 abbrev μ-loop : tie.MeasureT-loop
 μ-loop seed p₀ site₀ p site = 31 - site
 
-empty-requires : tie.Need-empty-requires Inv-loop μ-loop
-empty-requires c κs = search needs
+new-requires : tie.Need-new-requires Inv-loop μ-loop
+new-requires c κs = search needs
 
 loop-holds : tie.Need-loop-holds Inv-loop μ-loop
 loop-holds c = search needs
@@ -40,7 +40,7 @@ seeded-spec =
     (tie.spec
     Inv-loop
     μ-loop
-    empty-requires
+    new-requires
     loop-holds
     letter-requires
     set-pauli-requires

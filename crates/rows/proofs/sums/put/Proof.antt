@@ -5,7 +5,7 @@ use mathlib.Core.Logic.{⊎-elim}
 use native.Mathlib.Omega.{arith}
 use borrow.Author.Needs.{needs}
 use borrow.Author.Tests.{not-true, not-false}
-use Rattle.rows.specs.Numbers.{floats}
+use Rattle.rows.specs.Floats.{floats}
 use Rattle.rows.specs.Placing.{keptBy}
 use Rattle.rows.proofs.ArrayLaws.{kept-zero, kept-other, kept-with, entries-stored, long-stored}
 use Rattle.rows.proofs.sums.put.Statement.{statement}

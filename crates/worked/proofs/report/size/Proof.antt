@@ -7,7 +7,7 @@ use lib.IntN.{ℤ, pos, negℤ, natAbs, _+ℤ_, _-ℤ_}
 use lib.Signed.{mag, ltZ}
 use mir.Syntax.{w64}
 use mir.Val.{toZ, ofZ}
-use Rattle.rows.proofs.HalfLaws.{read}
+use Rattle.exact_sums.proofs.HalfLaws.{read}
 use Rattle.worked.proofs.SignedLaws.{number-after, negated-twice, mag-negated, size-below, size-above}
 use Rattle.worked.proofs.report.size.Statement.{statement}
 use Rattle.worked.proofs.report.size.Tie as tie

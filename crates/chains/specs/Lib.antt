@@ -1,0 +1,3 @@
+pub mod ChainAnswers
+pub mod Chained
+pub mod HamiltonianProducts

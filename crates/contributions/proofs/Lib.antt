@@ -1,0 +1,3 @@
+pub mod ContributionLaws
+pub mod ValueLaws
+pub mod WritingLaws

@@ -1,0 +1,3 @@
+pub mod CoefficientLaws
+pub mod ExactWritingLaws
+pub mod ExactSystemLaws

@@ -1,0 +1,3 @@
+pub mod HalfLaws
+pub mod ExactLaws
+pub mod ExactCases

@@ -1,0 +1,3 @@
+pub mod Reals
+pub mod RealAnswers
+pub mod RealMasks

@@ -1,0 +1,5 @@
+pub mod Lists
+pub mod Record
+pub mod Masks
+pub mod Verdicts
+pub mod Answers

@@ -1,0 +1,59 @@
+-- `marks::is_new_marked`: a number whose mark is not set is taken for new (`new-unmarked`); else `is_new` answers (`new-compared`).
+-- Assumes nothing.
+use Prim.Native.Nat.{ℕ, min}
+use native.Mathlib.Omega.{arith}
+use mathlib.Core.Path.{_≡_, sym, _∙_}
+use mathlib.Core.Bool.{not}
+use lib.Dec.{eqb}
+use lib.ListN.{getD}
+use borrow.Author.Needs.{needs}
+use Rattle.letters.specs.Tests.{every}
+use Rattle.terms.specs.Marks.{markOf, newByMarks}
+use Rattle.terms.specs.Setting.{mostTerms}
+use Rattle.terms.proofs.MarkLaws.{new-unmarked, new-compared}
+use Rattle.marks.proofs.is_new_marked.Statement.{statement}
+use Rattle.marks.proofs.is_new_marked.Tie as tie
+
+-- the mark is set: k numbers are compared
+compared : (m : tie.After-mark-of) {k : ℕ} → let a = m .before .args in
+    k ≡ min (a .n) mostTerms → (getD (a .marks .now) (m .mark-of .result) 0 ≡ 0 → ⊥)
+    → newByMarks markOf eqb (a .marks .now) (λ j. getD (a .numbers .now) j 0) (min (a .n) mostTerms) (a .x) ≡ every k (λ j. not (eqb (getD (a .numbers .now) j 0) (a .x)))
+compared m all set =
+    let a = m .before .args in
+    new-compared markOf eqb (a .marks .now) (λ j. getD (a .numbers .now) j 0) (min (a .n) mostTerms) (a .x) all (m .mark-of .ensures) set
+
+mark-of-requires : tie.Need-mark-of-requires
+mark-of-requires c κs = search needs
+
+element-copy-out-if1 : tie.Need-element-copy-out-if1
+element-copy-out-if1 c = search needs
+
+returns : tie.Need-returns
+returns c =
+    let m = c .before .before in
+    let a = m .before .args in
+    sym (new-unmarked markOf eqb (a .marks .now) (λ j. getD (a .numbers .now) j 0) (min (a .n) mostTerms) (a .x) (m .mark-of .ensures) (c .if1 .taken))
+
+is-new-requires : tie.Need-is-new-requires
+is-new-requires c κs = search needs
+
+returns-2 : tie.Need-returns-2
+returns-2 c =
+    let i = c .before .before in
+    let m = i .before .before in
+    let all : mostTerms ≡ min (m .before .args .n) mostTerms = omega arith in
+    c .is-new .ensures ∙ sym (compared m all (i .if1 .left))
+
+is-new-requires-2 : tie.Need-is-new-requires-2
+is-new-requires-2 c κs = search needs
+
+returns-3 : tie.Need-returns-3
+returns-3 c =
+    let i = c .before .before in
+    let m = i .before .before in
+    let all : m .before .args .n ≡ min (m .before .args .n) mostTerms = omega arith in
+    c .is-new2 .ensures ∙ sym (compared m all (i .if1 .left))
+
+pub is-new-marked-spec : {M : Type 1} → statement M
+is-new-marked-spec =
+    tie.close (tie.spec mark-of-requires element-copy-out-if1 returns is-new-requires returns-2 is-new-requires-2 returns-3)

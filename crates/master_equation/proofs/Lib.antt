@@ -1,0 +1,2 @@
+pub mod SparseLaws
+pub mod SuperoperatorTheorems

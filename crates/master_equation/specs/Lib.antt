@@ -1,0 +1,4 @@
+pub mod Equation
+pub mod Numbers
+pub mod Contributions
+pub mod Sums

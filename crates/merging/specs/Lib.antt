@@ -1,0 +1,4 @@
+pub mod Steps
+pub mod ProductAnswers
+pub mod SiteAnswers
+pub mod Targets

@@ -1,0 +1,4 @@
+pub mod FullLaws
+pub mod RemapLaws
+pub mod NoiseValidAnswers
+pub mod NoiseTheorems

@@ -1,0 +1,2 @@
+pub mod ChainAnswers
+pub mod Chained

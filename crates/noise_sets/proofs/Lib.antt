@@ -1,0 +1,4 @@
+pub mod SetLaws
+pub mod ValidLaws
+pub mod MaskedLaws
+pub mod ReadingLaws

@@ -1,0 +1,4 @@
+pub mod MaskedLaws
+pub mod HandedLaws
+pub mod SystemRowLaws
+pub mod SystemTheorems

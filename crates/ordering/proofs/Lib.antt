@@ -1,0 +1,4 @@
+pub mod SamePlaces
+pub mod ComparisonLaws
+pub mod OrderingLaws
+pub mod OrderLaws

@@ -1,0 +1,4 @@
+pub mod SetLaws
+pub mod ValidLaws
+pub mod MaskLaws
+pub mod ReadingLaws

@@ -1,0 +1,3 @@
+pub mod Complexes
+pub mod Matrices
+pub mod Answers
