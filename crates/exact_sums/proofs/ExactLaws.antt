@@ -16,13 +16,13 @@ use Rattle.letters.specs.Gauss.{G, _⊕_}
 use Rattle.letters.specs.Tests.{every}
 use Rattle.letters.proofs.TestLaws.{and-true, and-left, and-right, bool-ext, every-at, every-intro, every-more, every-false}
 use Rattle.rows.specs.Placing.{rowIn}
-use Rattle.sorting.specs.Sorting.{All, sorted, upTo}
+use Rattle.sorted_lists.specs.Sorting.{All, sorted, upTo}
 use Rattle.rows.specs.Buffers.{mostEntries, valueIn, entriesIn}
 use Rattle.master_equation.specs.Numbers.{halves}
 use Rattle.exact_sums.specs.ExactSums.{whole, wholeParts, exactEntries, within, largestContribution, allSmall, exactAnswer, ExactCall}
 use Rattle.rows.proofs.ArrayLaws.{Faithful, length-entriesIn}
-use Rattle.sorting.proofs.SortLaws.{all-sorted}
-use Rattle.sorting.proofs.RunLaws.{all-append}
+use Rattle.sorted_lists.proofs.SortLaws.{all-sorted}
+use Rattle.sorted_lists.proofs.RunLaws.{all-append}
 use Rattle.rows.proofs.CallLaws.{contributions-refused, contributions-taken, row-given}
 use Rattle.exact_sums.proofs.HalfLaws.{within-re, within-im, abs-sum}
 

@@ -9,7 +9,7 @@ ghost use Rattle.rows.specs.Buffers.{valueIn, Long, entryIn, saidDelivery};
 ghost use Rattle.exact_sums.specs.ExactSums.{wholeParts, within, largestContribution, whole, exactEntries, allSmall, ExactCall, exactAnswer};
 ghost use Rattle.master_equation.specs.Numbers.{halves};
 ghost use Rattle.rows.specs.Placing.{keptBy, rowIn};
-ghost use Rattle.sorting.specs.Sorting.{All, Places};
+ghost use Rattle.sorted_lists.specs.Sorting.{All, Places};
 ghost use Rattle.rows.specs.Neighbours.{neighboursAdded};
 ghost use Rattle.refusal.specs.Refusals.{gives};
 

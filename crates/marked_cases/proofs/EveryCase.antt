@@ -23,7 +23,7 @@ use Rattle.master_equation.specs.Equation.{δ, 𝟚, commutator, adjointProduct
 use Rattle.rows.specs.HalfUnits.{minusHalfUnit}
 use Rattle.master_equation.specs.Contributions.{operatorTerms, commutatorTerms, noiseTerms}
 use Rattle.rows.specs.Placing.{placed, placeAll, rowOf, nonzero, keptBy, rowIn}
-use Rattle.sorting.specs.Sorting.{upTo}
+use Rattle.sorted_lists.specs.Sorting.{upTo}
 use Rattle.master_equation.specs.Sums.{valueAt}
 use Rattle.rows.specs.Calls.{outside, unlessOutside, checkedRow}
 use Rattle.hamiltonians.specs.Reals as reals

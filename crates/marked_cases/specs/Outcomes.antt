@@ -28,7 +28,7 @@ use Rattle.master_equation.specs.Equation.{𝟚, commutator, dissipator}
 use Rattle.master_equation.specs.Numbers.{halves}
 use Rattle.master_equation.specs.Contributions.{operatorTerms, commutatorTerms, noiseTerms}
 use Rattle.rows.specs.Placing.{rowIn}
-use Rattle.sorting.specs.Sorting.{upTo}
+use Rattle.sorted_lists.specs.Sorting.{upTo}
 use Rattle.hamiltonians.specs.Reals.{complexOf}
 use Rattle.hamiltonians.specs.Reals as reals
 use Rattle.operator_rows.specs.OperatorRows.{hamiltonianCommutatorRow}

@@ -13,7 +13,7 @@ use Rattle.items.specs.Record.{capacity}
 use Rattle.ordering.specs.Orders.{less, greater}
 use Rattle.items.specs.declared.Items.{Items}
 use Rattle.master_equation.specs.Equation.{𝟚}
-use Rattle.sorting.specs.Sorting.{upTo}
+use Rattle.sorted_lists.specs.Sorting.{upTo}
 use Rattle.master_equation.specs.Sums.{valueAt}
 use Rattle.marked_cases.specs.Outcomes as cases
 use Rattle.marked_cases.specs.Outcomes.{Input, multiplySingle, multiply, setPauli, hermitianConjugate, convert, cmp, productRow, noiseRow, commutatorRow, Outcome, f64, entriesOf, matrixOf}

@@ -12,12 +12,12 @@ use lib.Ieee.{Float}
 use Rattle.complex.specs.declared.Complex.{Complex}
 use Rattle.master_equation.specs.Numbers.{Numbers}
 use Rattle.rows.specs.Placing.{nonzero, keptBy, rowIn}
-use Rattle.sorting.specs.Sorting.{Places, sorted, upTo}
+use Rattle.sorted_lists.specs.Sorting.{Places, sorted, upTo}
 use Rattle.rows.specs.Neighbours.{addedFrom, neighboursAdded}
 use Rattle.rows.specs.Buffers.{TwoParts, floatParts, Long, valueIn, entryIn, entriesIn, entries}
-use Rattle.sorting.proofs.SortLaws.{map-sorted}
+use Rattle.sorted_lists.proofs.SortLaws.{map-sorted}
 use Rattle.rows.proofs.NeighbourLaws.{columnOf, added-same, added-next, added-last, added-sorted}
-use Rattle.sorting.proofs.RunLaws.{slice-none}
+use Rattle.sorted_lists.proofs.RunLaws.{slice-none}
 
 -- a number is its two parts
 pub record Faithful {N X : Type 0} (P : TwoParts N X) : Type 0 where

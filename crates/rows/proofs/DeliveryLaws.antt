@@ -13,10 +13,10 @@ use lib.ListN.{length, getD, set, take, drop, length-set, length-map, List·getD
 use lib.Seq.{drop-cons, set-at, append-snoc, take-suc, take-all, getD-at, getD-take, ext-getD, length-take-le}
 use borrow.Author.Tests.{le-leb, lt-leb}
 use Rattle.refusal.specs.Refusals.{Said, gives, refuses}
-use Rattle.sorting.specs.Sorting.{upTo}
+use Rattle.sorted_lists.specs.Sorting.{upTo}
 use Rattle.rows.specs.Buffers.{TwoParts, Long, entryIn, entriesIn, mostEntries, roomFor, firstNumbers, putInto}
 use Rattle.rows.specs.Calls.{countOf, after, unlessMalformed, RowCallIn}
-use Rattle.sorting.proofs.FirstPlaces.{length-upTo}
+use Rattle.sorted_lists.proofs.FirstPlaces.{length-upTo}
 use Rattle.rows.proofs.ArrayLaws.{Faithful, length-entriesIn}
 use Rattle.rows.proofs.CallLaws.{contributions-refused, contributions-taken, row-given}
 

@@ -7,10 +7,10 @@ use mathlib.Core.List.{List, [], _∷_, _++_}
 use borrow.Author.Tests.{lt-ltb, le-ltb, eq-eqb, ne-eqb}
 use Rattle.rows.specs.Placing.{placed, placeAll, rowOf}
 use Rattle.master_equation.specs.Sums.{Ascending}
-use Rattle.sorting.specs.Sorting.{Rising, inserted, sortedOnto, sorted, merged}
+use Rattle.sorted_lists.specs.Sorting.{Rising, inserted, sortedOnto, sorted, merged}
 use Rattle.rows.specs.Neighbours.{addedFrom, neighboursAdded}
 use Rattle.rows.proofs.PlacingLaws.{ascending-from, row-append}
-use Rattle.sorting.proofs.SortLaws.{by-order, inserted-here, inserted-past, inserted-none, rising-inserted, sorted-rising, merged-sorted}
+use Rattle.sorted_lists.proofs.SortLaws.{by-order, inserted-here, inserted-past, inserted-none, rising-inserted, sorted-rising, merged-sorted}
 
 -- the column of an entry
 abbrev pub columnOf : {N : Type 0} → ℕ × N → ℕ

@@ -12,10 +12,10 @@ use lib.Ieee.{Float, nan}
 use Rattle.complex.specs.declared.Complex.{Complex}
 use Rattle.rows.specs.Floats.{floats}
 use Rattle.rows.specs.Placing.{keptBy, rowIn, openRowIn}
-use Rattle.sorting.specs.Sorting.{merged, upTo}
+use Rattle.sorted_lists.specs.Sorting.{merged, upTo}
 use Rattle.rows.specs.Neighbours.{neighboursAdded}
 use Rattle.rows.specs.Buffers.{floatParts, Long, valueIn, entryIn, entries}
-use Rattle.sorting.proofs.SortLaws.{map-merged}
+use Rattle.sorted_lists.proofs.SortLaws.{map-merged}
 use Rattle.rows.proofs.PlacingLaws.{rowIn-ascending}
 use Rattle.rows.proofs.NeighbourLaws.{columnOf, placed-row}
 use Rattle.rows.proofs.ArrayLaws.{entries-none, entries-stored, entriesIn-map, entriesIn-more, length-entriesIn, long-stored}

@@ -8,7 +8,7 @@ use lib.ListN.{length, drop, getD}
 use lib.Ieee.{Float, nan}
 use Rattle.refusal.specs.Refusals.{Said, gives, refuses, number, siteOf}
 use Rattle.complex.specs.declared.Complex.{Complex}
-use Rattle.sorting.specs.Sorting.{upTo}
+use Rattle.sorted_lists.specs.Sorting.{upTo}
 use Rattle.rows.specs.declared.Delivery.{Delivery}
 
 -- the most contributions: 2 of each of 64 terms of a Hamiltonian and 3 of each of 64 pairs of noise

@@ -3,7 +3,7 @@ ghost use mathlib.Core.Path.{_≡_};
 ghost use mathlib.Core.List.{[], _∷_, _++_, map};
 ghost use Prim.Native.Nat.{_+_, _≤_, _<_};
 ghost use lib.ListN.{take};
-ghost use Rattle.sorting.specs.Sorting.{Places};
+ghost use Rattle.sorted_lists.specs.Sorting.{Places};
 ghost use Rattle.rows.specs.Neighbours.{neighboursAdded};
 ghost use Rattle.rows.specs.Floats.{floats};
 ghost use Rattle.rows.specs.Placing.{keptBy, rowIn};

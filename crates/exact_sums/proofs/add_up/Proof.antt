@@ -9,7 +9,7 @@ use lib.ListN.{getD}
 use Rattle.rows.specs.Buffers.{valueIn}
 use Rattle.master_equation.specs.Numbers.{halves}
 use Rattle.exact_sums.specs.ExactSums.{whole, wholeParts, within, largestContribution}
-use Rattle.sorting.proofs.RunLaws.{places-at}
+use Rattle.sorted_lists.proofs.RunLaws.{places-at}
 use Rattle.rows.proofs.ArrayLaws.{AddingIn, adding-none, adding-first, adding-same, adding-next, adding-done}
 use Rattle.exact_sums.proofs.ExactLaws.{Bounded, bounded-one, bounded-more, re-fits, im-fits, all-take}
 use Rattle.exact_sums.proofs.add_up.Statement.{statement}

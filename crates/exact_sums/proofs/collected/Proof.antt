@@ -5,7 +5,7 @@ use borrow.Author.Needs.{needs}
 use lib.ListN.{getD, take}
 use Rattle.master_equation.specs.Numbers.{halves}
 use Rattle.exact_sums.specs.ExactSums.{wholeParts}
-use Rattle.sorting.proofs.FirstPlaces.{places-sorted, sorted-first}
+use Rattle.sorted_lists.proofs.FirstPlaces.{places-sorted, sorted-first}
 use Rattle.rows.proofs.ArrayLaws.{collected-row}
 use Rattle.exact_sums.proofs.ExactLaws.{small-sorted}
 use Rattle.exact_sums.proofs.collected.Statement.{statement}

@@ -4,7 +4,7 @@ use mathlib.Core.Path.{ap, _∙_}
 use native.Mathlib.Omega.{arith}
 use borrow.Author.Needs.{needs}
 use lib.ListN.{take}
-use Rattle.sorting.proofs.FirstPlaces.{places-merged, merged-first}
+use Rattle.sorted_lists.proofs.FirstPlaces.{places-merged, merged-first}
 use Rattle.rows.proofs.OpenLaws.{open-row}
 use Rattle.rows.proofs.both.open_row.Statement.{statement}
 use Rattle.rows.proofs.both.open_row.Tie as tie

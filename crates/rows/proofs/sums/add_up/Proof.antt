@@ -7,7 +7,7 @@ use borrow.Author.Needs.{needs}
 use lib.ListN.{getD}
 use Rattle.rows.specs.Floats.{floats}
 use Rattle.rows.specs.Buffers.{floatParts}
-use Rattle.sorting.proofs.RunLaws.{places-at}
+use Rattle.sorted_lists.proofs.RunLaws.{places-at}
 use Rattle.rows.proofs.ArrayLaws.{AddingIn, adding-none, adding-first, adding-same, adding-next, adding-done}
 use Rattle.rows.proofs.sums.add_up.Statement.{statement}
 use Rattle.rows.proofs.sums.add_up.Tie as tie

@@ -4,7 +4,7 @@ use borrow.Author.Needs.{needs}
 use lib.ListN.{take}
 use Rattle.rows.specs.Floats.{floats}
 use Rattle.rows.specs.Buffers.{floatParts}
-use Rattle.sorting.proofs.FirstPlaces.{places-sorted, sorted-first}
+use Rattle.sorted_lists.proofs.FirstPlaces.{places-sorted, sorted-first}
 use Rattle.rows.proofs.ArrayLaws.{collected-row}
 use Rattle.rows.proofs.sums.collected.Statement.{statement}
 use Rattle.rows.proofs.sums.collected.Tie as tie
