@@ -1,7 +1,8 @@
 // The rows of a system over one spin, printed.
-ghost use mathlib.Core.Path.{_≡_};
 ghost use Prim.Native.Nat.{_≤_};
-ghost use lib.IntN.{natAbs};
+ghost use Rattle.rows.specs.Buffers.{mostEntries};
+use printing::MOST_ENTRIES;
+use printing::print_entries;
 use spins::Delivery;
 use spins::PauliLindbladOpenSystem;
 use spins::exact_row;
@@ -12,11 +13,11 @@ const SPINS: u32 = 1;
 fn row_into(
     s: PauliLindbladOpenSystem,
     row: u64,
-    columns: &mut [u64; 4],
-    re: &mut [i64; 4],
-    im: &mut [i64; 4],
+    columns: &mut [u64; MOST_ENTRIES],
+    re: &mut [i64; MOST_ENTRIES],
+    im: &mut [i64; MOST_ENTRIES],
 ) -> usize
-    ensures { λ r. ⌜ r ≤ 4 ⌝ }
+    ensures { λ r. ⌜ r ≤ mostEntries ⌝ }
 {
     match exact_row(s, SPINS, row, columns, re, im) {
         Delivery::Count(n) => n,
@@ -26,11 +27,11 @@ fn row_into(
 
 // How many entries a row has.
 fn entries_of(s: PauliLindbladOpenSystem, row: u64) -> usize
-    ensures { λ r. ⌜ r ≤ 4 ⌝ }
+    ensures { λ r. ⌜ r ≤ mostEntries ⌝ }
 {
-    let mut columns = [0u64; 4];
-    let mut re = [0i64; 4];
-    let mut im = [0i64; 4];
+    let mut columns = [0u64; MOST_ENTRIES];
+    let mut re = [0i64; MOST_ENTRIES];
+    let mut im = [0i64; MOST_ENTRIES];
     row_into(s, row, &mut columns, &mut re, &mut im)
 }
 
@@ -44,46 +45,11 @@ pub(crate) fn print_header(s: PauliLindbladOpenSystem) {
     io::write_all(1, b"\n");
 }
 
-// The size of a number: of the smallest one too, whose negative 64 bits don't hold.
-fn size(x: i64) -> u64
-    ensures { λ r. ⌜ r ≡ natAbs x ⌝ }
-{
-    if x < 0 {
-        let less = -(x + 1);
-        return less as u64 + 1;
-    }
-    x as u64
-}
-
-// A number with its sign.
-fn print_signed(x: i64) {
-    if x < 0 {
-        io::write_all(1, b"-");
-    }
-    io::print_decimal(1, size(x));
-}
-
-// Row, column, real halves, imaginary halves.
-fn print_entry(row: u64, column: u64, re: i64, im: i64) {
-    io::print_decimal(1, row);
-    io::write_all(1, b" ");
-    io::print_decimal(1, column);
-    io::write_all(1, b" ");
-    print_signed(re);
-    io::write_all(1, b" ");
-    print_signed(im);
-    io::write_all(1, b"\n");
-}
-
 // A row, by ascending column.
 pub(crate) fn print_row(s: PauliLindbladOpenSystem, row: u64) {
-    let mut columns = [0u64; 4];
-    let mut re = [0i64; 4];
-    let mut im = [0i64; 4];
+    let mut columns = [0u64; MOST_ENTRIES];
+    let mut re = [0i64; MOST_ENTRIES];
+    let mut im = [0i64; MOST_ENTRIES];
     let n = row_into(s, row, &mut columns, &mut re, &mut im);
-    let mut i = 0;
-    while i < n {
-        print_entry(row, columns[i], re[i], im[i]);
-        i += 1;
-    }
+    print_entries(row, n, &columns, &re, &im);
 }

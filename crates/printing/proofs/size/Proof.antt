@@ -8,9 +8,9 @@ use lib.Signed.{mag, ltZ}
 use mir.Syntax.{w64}
 use mir.Val.{toZ, ofZ}
 use Rattle.exact_sums.proofs.HalfLaws.{read}
-use Rattle.worked.proofs.SignedLaws.{number-after, negated-twice, mag-negated, size-below, size-above}
-use Rattle.worked.proofs.report.size.Statement.{statement}
-use Rattle.worked.proofs.report.size.Tie as tie
+use Rattle.printing.proofs.SignedLaws.{number-after, negated-twice, mag-negated, size-below, size-above}
+use Rattle.printing.proofs.size.Statement.{statement}
+use Rattle.printing.proofs.size.Tie as tie
 
 given : (c : tie.Start) → toZ w64 (ofZ w64 (c .args .x)) ≡ c .args .x
 given c = read (c .args .x) (c .fits .x .sfits)
