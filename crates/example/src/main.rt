@@ -15,7 +15,7 @@ const X: u8 = 1;
 
 const Z: u8 = 3;
 
-// The Hamiltonian 3 Z0, and the noise pair (X0, X0) with rate 2.
+// The Hamiltonian 3 Z0, and the noise pair (X0, X0) with rate 2. Each call answers whether it was accepted (`z0.outcome`, `h.answer`); all are.
 fn system() -> PauliLindbladOpenSystem {
     let z0 = PauliProduct::new().set_pauli(0, Z);
     let h = PauliHamiltonian::new().set(z0.product, 3.0);

@@ -2,7 +2,7 @@
 -- Assumes nothing.
 use mathlib.Core.Path.{_≡_, refl}
 use mathlib.Core.List.{List, [], _∷_}
-use Prim.Native.Nat.{ℕ}
+use Prim.Native.Nat.{ℕ, _^_}
 use lib.ListN.{length}
 use Rattle.refusal.specs.Refusals.{refuses}
 use Rattle.letters.specs.Tests.{every}
@@ -35,3 +35,13 @@ range-refused = refl
 pub site-refused : rowAnswer (lettersOf Pauli) (product (0 ∷ 8 ∷ []) (1 ∷ 1 ∷ [])) 8 0 ≡ refuses 8 (8 ∷ [])
 unfolding padded valid inShape placeValid rowAnswer reach every
 site-refused = refl
+
+-- 0X8X over 32 spins in row 2^40, which 32 spins do not have: 7 before 9
+pub spins-first : rowAnswer (lettersOf Pauli) (product (0 ∷ 8 ∷ []) (1 ∷ 1 ∷ [])) 32 (2 ^ 40) ≡ refuses 7 []
+unfolding padded valid inShape placeValid rowAnswer reach every
+spins-first = refl
+
+-- 0X8X over one spin in row 2: 9 before 8
+pub row-before-site : rowAnswer (lettersOf Pauli) (product (0 ∷ 8 ∷ []) (1 ∷ 1 ∷ [])) 1 2 ≡ refuses 9 []
+unfolding padded valid inShape placeValid rowAnswer reach every
+row-before-site = refl
