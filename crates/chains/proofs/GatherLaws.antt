@@ -8,6 +8,7 @@ use mathlib.Core.Path.{_≡_, refl, sym, ap, _∙_}
 use mathlib.Core.List.{List, [], _∷_, _++_, map, append-assoc}
 use lib.ListN.{length, take, drop, getD, set, replicate, length-map}
 use lib.Seq.{length-take-le, drop-cons, set-at, drop-append-seam}
+use Rattle.chains.specs.ChainAnswers.{productTerms}
 use Rattle.refusal.specs.Refusals.{Said}
 use Rattle.complex.specs.Complex.{productOf, conjugateOf, unitOfI}
 use Rattle.complex.specs.declared.Complex.{Complex}
@@ -24,7 +25,7 @@ use Rattle.terms.proofs.KeyedLaws.{map-more}
 use Rattle.terms.proofs.RunLaws.{Ran, ran-more, ran-done, reached, reached-is, run-joins, run-maps}
 use Rattle.terms.proofs.SettingLaws.{Held}
 use Rattle.term_sets.specs.Complexes.{complexTerms, complexProducts, termOf, blank, heldBy, filled}
-use Rattle.chains.specs.Chained.{after, Chain, productTerms, rowTerm, rowTerms}
+use Rattle.chains.specs.Chained.{after, Chain, rowTerm, rowTerms}
 use Rattle.term_sets.specs.declared.Term.{Term}
 use Rattle.term_sets.specs.declared.TermSet.{TermSet}
 use Rattle.term_sets.specs.declared.TermSetAnswer.{TermSetAnswer}

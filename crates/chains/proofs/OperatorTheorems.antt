@@ -6,6 +6,7 @@ use mathlib.Core.Bool.{true}
 use mathlib.Core.List.{List, []}
 use mathlib.Core.Option.{some}
 use Prim.Native.Nat.{ℕ, _^_}
+use native.Mathlib.Nat.{max-le}
 use Rattle.refusal.specs.Refusals.{done}
 use Rattle.letters.specs.Gauss.{G, _⊕_, _⊗_, conj}
 use Rattle.letters.specs.Sums.{Σ}
@@ -13,11 +14,10 @@ use Rattle.letters.specs.Matrices.{Letters, lettersOf, matrix}
 use Rattle.letters.specs.Answers.{other}
 use Rattle.letters.specs.declared.Kind.{Kind}
 use Rattle.letters.proofs.GaussLaws.{𝟘-⊕}
-use Rattle.items.specs.Record.{valid, letterAt, reach, sameItems}
+use Rattle.items.specs.Record.{valid, letterAt, sameItems}
 use Rattle.merging.specs.ProductAnswers.{multiplyAnswer}
 use Rattle.phases.specs.Answers.{conjugateAnswer, convertAnswer}
 use Rattle.items.specs.declared.Items.{Items}
-use Rattle.items.proofs.ListLaws.{larger-most}
 use Rattle.items.proofs.SameLaws.{same-equal}
 use Rattle.products.proofs.ProductTheorems.{multiply-theorem, conjugate-theorem, convert-theorem}
 use Rattle.terms.specs.Gaussian.{gaussianProducts, weighted, summed}
@@ -82,7 +82,7 @@ module _ (kind : Kind) (n : ℕ) where
       ∙ (unfold matrixOf in
       weighted-times sameItems (λ p. matrix M n (letterAt p) r c) (Fits n) (λ p q. multiplyAnswer M p q .1) (λ p q. Σ (2 ^ n) (λ m. matrix M n (letterAt p) r m ⊗ matrix M n (letterAt q) m c))
       (λ p q hp hq.
-      sym (multiply-theorem kind p q _ _ (multiply-done M p q (hp .0) (hq .0)) n (larger-most (reach p) (reach q) n (hp .1) (hq .1)) r c))
+      sym (multiply-theorem kind p q _ _ (multiply-done M p q (hp .0) (hq .0)) n (max-le (hp .1) (hq .1)) r c))
       l t hl ht
       ∙ sym (weighted-product (2 ^ n) (λ p m. matrix M n (letterAt p) r m) (λ q m. matrix M n (letterAt q) m c) l t))
 

@@ -31,8 +31,7 @@ use Rattle.terms.proofs.GoodLaws.{all-good}
 use Rattle.terms.proofs.AnswerLaws.{Answered, answered-past, finally-answered, collected-answered}
 use Rattle.terms.proofs.ValidSetLaws as laws
 use Rattle.term_sets.specs.Complexes.{complexTerms, complexProducts, heldBy, filled, goodCoefficient, validSet}
-use Rattle.chains.specs.ChainAnswers.{setTerm, addTerm, allInRange, collected, multiplySets, conjugateSet, convertSet, scaleSet}
-use Rattle.chains.specs.Chained.{productTerms, conjugates, conversions}
+use Rattle.chains.specs.ChainAnswers.{setTerm, addTerm, allInRange, collected, multiplySets, conjugateSet, convertSet, scaleSet, productTerms, conjugates, conversions}
 use Rattle.term_sets.specs.declared.Term.{Term}
 use Rattle.term_sets.specs.declared.TermSet.{TermSet}
 use Rattle.chains.proofs.GatherLaws.{scaledTerm}

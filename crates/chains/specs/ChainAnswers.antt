@@ -50,22 +50,32 @@ finally s l = entries.ended complexTerms inRange filled s (gives l)
 abbrev pub collected : TermSet → Option (List Term) → Said Unit × TermSet
 collected = entries.collected complexTerms inRange filled
 
+-- the terms that each chain adds
+abbrev pub productTerms : Letters → List Term → List Term → List Term
+productTerms M l r = timesTerms complexTerms complexProducts (λ p q. multiplyAnswer M p q .1) l r
+
+abbrev pub conjugates : Letters → List Term → List Term
+conjugates M l = conjugateTerms complexTerms complexProducts (λ p. conjugateAnswer M p .1) l
+
+abbrev pub conversions : Letters → Letters → List Term → List Term
+conversions M M′ l = convertTerms complexTerms complexProducts (λ p. convertAnswer M M′ p .1) l
+
 unfoldable pub multiplySets : Letters → Bool → TermSet → TermSet → Said Unit × TermSet
 multiplySets M zeros s t =
     cond (not (validSet zeros s)) (refuses 0 [], s)
     (cond (not (validSet zeros t)) (refuses 0 [], s)
-    (collected s (addAll complexTerms (timesTerms complexTerms complexProducts (λ p q. multiplyAnswer M p q .1) (heldBy s) (heldBy t)) [])))
+    (collected s (addAll complexTerms (productTerms M (heldBy s) (heldBy t)) [])))
 
 unfoldable pub conjugateSet : Letters → Bool → TermSet → Said Unit × TermSet
 conjugateSet M zeros s =
     cond (not (validSet zeros s)) (refuses 0 [], s)
-    (collected s (addAll complexTerms (conjugateTerms complexTerms complexProducts (λ p. conjugateAnswer M p .1) (heldBy s)) []))
+    (collected s (addAll complexTerms (conjugates M (heldBy s)) []))
 
 -- the answer has another type, so the empty set stands beside a refusal
 unfoldable pub convertSet : Letters → Letters → Bool → TermSet → Said Unit × TermSet
 convertSet M M′ zeros s =
     cond (not (validSet zeros s)) (refuses 0 [], filled [])
-    (collected (filled []) (addAll complexTerms (convertTerms complexTerms complexProducts (λ p. convertAnswer M M′ p .1) (heldBy s)) []))
+    (collected (filled []) (addAll complexTerms (conversions M M′ (heldBy s)) []))
 
 -- "`PauliOperator` times a number keeps every term, those that became zero too"
 unfoldable pub scaleSet : TermSet → Complex → Said Unit × TermSet

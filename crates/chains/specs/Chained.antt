@@ -1,4 +1,4 @@
--- The state of a chain of additions, and the terms that each chain adds: only the helpers of the chains cite them.
+-- The state of a chain of additions, and the terms of a product, row by row: only the helpers of the chains cite them.
 use mathlib.Core.Path.{_≡_}
 use mathlib.Core.List.{List, [], map}
 use mathlib.Core.Option.{Option, none, some}
@@ -7,10 +7,8 @@ use Rattle.refusal.specs.declared.Refusal.{Refusal}
 use Rattle.complex.specs.Complex.{productOf, unitOfI}
 use Rattle.letters.specs.Matrices.{Letters}
 use Rattle.merging.specs.ProductAnswers.{multiplyAnswer}
-use Rattle.phases.specs.Answers.{conjugateAnswer, convertAnswer}
 use Rattle.terms.specs.Setting.{addAll}
-use Rattle.terms.specs.Chains.{timesTerms, conjugateTerms, convertTerms}
-use Rattle.term_sets.specs.Complexes.{complexTerms, complexProducts, termOf, filled}
+use Rattle.term_sets.specs.Complexes.{complexTerms, termOf, filled}
 use Rattle.term_sets.specs.declared.Term.{Term}
 use Rattle.term_sets.specs.declared.TermSetAnswer.{TermSetAnswer}
 
@@ -28,16 +26,7 @@ pub record Chain (c : TermSetAnswer) : Type 0 where
   pub terms : List Term
   pub is : c ≡ after terms
 
--- ---- the terms of each chain
-
-abbrev pub productTerms : Letters → List Term → List Term → List Term
-productTerms M l r = timesTerms complexTerms complexProducts (λ p q. multiplyAnswer M p q .1) l r
-
-abbrev pub conjugates : Letters → List Term → List Term
-conjugates M l = conjugateTerms complexTerms complexProducts (λ p. conjugateAnswer M p .1) l
-
-abbrev pub conversions : Letters → Letters → List Term → List Term
-conversions M M′ l = convertTerms complexTerms complexProducts (λ p. convertAnswer M M′ p .1) l
+-- ---- the terms of a product
 
 -- the product of a left term with a right one
 unfoldable pub rowTerm : Letters → Term → Term → Term

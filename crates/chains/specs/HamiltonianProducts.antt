@@ -4,12 +4,10 @@ use mathlib.Core.Bool.{not, cond}
 use mathlib.Core.List.{[], map}
 use Rattle.refusal.specs.Refusals.{Said, refuses}
 use Rattle.letters.specs.Matrices.{pauli}
-use Rattle.merging.specs.ProductAnswers.{multiplyAnswer}
 use Rattle.terms.specs.Setting.{addAll}
-use Rattle.terms.specs.Chains.{timesTerms}
-use Rattle.term_sets.specs.Complexes.{complexTerms, complexProducts}
+use Rattle.term_sets.specs.Complexes.{complexTerms}
 use Rattle.term_sets.specs.Complexes as complexes
-use Rattle.chains.specs.ChainAnswers.{collected}
+use Rattle.chains.specs.ChainAnswers.{collected, productTerms}
 use Rattle.hamiltonians.specs.Reals.{complexTerm, heldBy, validSet}
 use Rattle.term_sets.specs.declared.TermSet.{TermSet}
 use Rattle.hamiltonians.specs.declared.pauli_hamiltonian.PauliHamiltonian.{PauliHamiltonian}
@@ -19,7 +17,7 @@ unfoldable pub multiplyReals : PauliHamiltonian → PauliHamiltonian → Said Un
 multiplyReals s t =
     cond (not (validSet s)) (refuses 0 [], complexes.filled [])
     (cond (not (validSet t)) (refuses 0 [], complexes.filled [])
-    (collected (complexes.filled []) (addAll complexTerms (timesTerms complexTerms complexProducts (λ p q. multiplyAnswer pauli p q .1) (map complexTerm (heldBy s)) (map complexTerm (heldBy t))) [])))
+    (collected (complexes.filled []) (addAll complexTerms (productTerms pauli (map complexTerm (heldBy s)) (map complexTerm (heldBy t))) [])))
 
 -- a Hamiltonian as a PauliOperator: its terms, added one after the other
 unfoldable pub intoOperator : PauliHamiltonian → Said Unit × TermSet

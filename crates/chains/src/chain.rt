@@ -2,8 +2,8 @@
 ghost use mathlib.Core.Path.{_≡_};
 ghost use mathlib.Core.List.{List, [], _∷_, _++_};
 ghost use Rattle.term_sets.specs.Complexes.{termOf, heldBy, filled, complexTerms, complexProducts};
-ghost use Rattle.chains.specs.Chained.{after, Chain, rowTerms, productTerms, conjugates, conversions};
-ghost use Rattle.chains.specs.ChainAnswers.{allInRange, collected, multiplySets, conjugateSet, convertSet, scaleSet};
+ghost use Rattle.chains.specs.Chained.{after, Chain, rowTerms};
+ghost use Rattle.chains.specs.ChainAnswers.{allInRange, collected, multiplySets, conjugateSet, convertSet, scaleSet, productTerms, conjugates, conversions};
 ghost use Rattle.terms.specs.Setting.{addAll};
 ghost use Rattle.term_sets.specs.Answers.{told};
 ghost use Rattle.letters.specs.Matrices.{lettersOf};

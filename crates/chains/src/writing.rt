@@ -18,7 +18,7 @@ use term_sets::TermSetAfterSet;
 use term_sets::TermSetAnswer;
 use term_sets::blank_term;
 use term_sets::coefficient_at;
-use term_sets::find_from;
+use term_sets::find;
 use term_sets::is_valid;
 use term_sets::was;
 use terms::MOST_TERMS;
@@ -54,7 +54,7 @@ pub(crate) fn put(s: TermSet, key: Items, value: Complex) -> Written
     ensures set { λ r. ⌜ r .set ≡ cond (hasRoom complexTerms key value (heldBy s)) (filled (write complexTerms key value (heldBy s))) s ⌝ }
 {
     let n = s.count;
-    let i = find_from(s, 0, key);
+    let i = find(s, key);
     if value.is_zero() {
         if i < n {
             return Written {

@@ -1,5 +1,5 @@
 -- Laws of the size test: two comparisons decide it.
--- Then the range and the zero test of a real number. Assumes nothing.
+-- Then the range and the zero test of a real number, and the equality of two numbers turned round. Assumes nothing.
 use Prim.Native.Nat.{ℕ, _+_, _*_, _^_, _<_}
 use native.Mathlib.Nat.{mul-one, one-mul, mul-pos}
 use native.Mathlib.Omega.{arith}
@@ -26,7 +26,7 @@ le-split a b = go (ltb a b) refl (eqb a b) refl
         rw (e, f, lt-leb a b (omega arith))
 
 -- equality of numbers, turned round
-eqb-sym : (a b : ℕ) → eqb a b ≡ eqb b a
+pub eqb-sym : (a b : ℕ) → eqb a b ≡ eqb b a
 eqb-sym a b = go (eqb a b) refl
   where
     go : (t : Bool) → eqb a b ≡ t → eqb a b ≡ eqb b a

@@ -12,10 +12,6 @@ use borrow.Author.Tests.{eqb-true}
 use Rattle.complex.specs.Complex.{plusZero, isPlusZero}
 use Rattle.complex.proofs.FloatLaws.{clash}
 
-pub plus-zero-is : plusZero ≡ fin false 0 (pos 0)
-unfolding ofBits
-plus-zero-is = refl
-
 -- +0 is the one value that passes
 pub plus-zero-only : (x : Float) → isPlusZero x ≡ true → x ≡ plusZero
 unfolding isPlusZero ofBits

@@ -1,6 +1,6 @@
 -- Condition 3, proved: the statements are those of specs/Condition3.
 -- Assumes nothing.
-use Prim.Native.Nat.{ℕ, _*_, _^_, _<_}
+use Prim.Native.Nat.{ℕ}
 use mathlib.Core.Path.{_≡_, refl, sym, ap, ap₂, subst, _∙_}
 use mathlib.Core.Bool.{Bool, true, false, not, _&&_, cond}
 use mathlib.Core.List.{List, map-map}
@@ -9,12 +9,12 @@ use lib.Dec.{leb}
 use Rattle.refusal.specs.Refusals.{Said, done}
 use Rattle.letters.specs.Gauss.{G}
 use Rattle.complex.proofs.FloatLaws.{clash}
-use Rattle.items.specs.Record.{reach, sameItems}
+use Rattle.items.specs.Record.{reach, sameItems, sameKey}
 use Rattle.items.specs.declared.Items.{Items}
 use Rattle.terms.specs.Keyed.{each}
 use Rattle.hamiltonians.specs.Reals as reals
 use Rattle.hamiltonians.specs.declared.pauli_hamiltonian.PauliHamiltonian.{PauliHamiltonian}
-use Rattle.noise_sets.specs.Pairs.{Key, sameKey, isEmpty}
+use Rattle.noise_sets.specs.Pairs.{Key, isEmpty}
 use Rattle.noise_sets.specs.Pairs as pairs
 use Rattle.noise_sets.specs.declared.NoiseSet.{NoiseSet}
 use Rattle.noise.specs.declared.pauli_noise_operator.PauliLindbladNoiseOperator.{PauliLindbladNoiseOperator}
@@ -26,38 +26,38 @@ use Rattle.superoperator.proofs.Determined.{entries-determine}
 use Rattle.complex.specs.Wholes.{bothWhole}
 use Rattle.master_equation.specs.Numbers.{halves}
 use Rattle.rows.specs.Placing.{rowIn}
-use Rattle.exact_rows.specs.ExactRows.{exactContributions, exactEntriesOf}
+use Rattle.exact_rows.specs.ExactRows.{exactContributions, exactRowEntries}
 use Rattle.exact_entries.specs.ExactEntries.{wholeHamiltonian, wholeNoise}
 use Rattle.exact_entries.proofs.RowValues.{wholeContributions, SameRows, rows-entries}
 use Rattle.exact_entries.proofs.EntryTheorems as exact_entries
 use Rattle.condition3.specs.Calls.{Call, setsAfter, callsThatSet}
 use Rattle.condition3.specs.ReferenceModel.{Line, Model, modelAfter}
-use Rattle.condition3.specs.Condition3.{Premises, SamePage, SameModel, RowsAgree, systemAfter, GroupAccepts, Condition3, Source, made, handedIn, systemOf, callsOf, Condition3HandedIn}
+use Rattle.condition3.specs.Condition3.{Premises, SameLines, SameModel, RowsAgree, systemAfter, GroupAccepts, Condition3, Source, made, handedIn, systemOf, callsOf, Condition3HandedIn}
 use Rattle.condition3.proofs.ModelLaws.{Holds, holds-after}
 use Rattle.condition3.proofs.HamiltonianLines.{realLines}
 use Rattle.condition3.proofs.NoiseLines.{noiseLines}
 use Rattle.condition3.proofs.HandedIn.{set-again}
-use Rattle.condition3.proofs.WholeLines.{wholeLine, wholeLines, pages-same}
+use Rattle.condition3.proofs.WholeLines.{wholeLine, wholeLines, lines-same}
 use Rattle.condition3.proofs.SoundLines.{sound-hamiltonian, sound-noise, sound-fits, sound-pairs-fit}
 
--- ---- pages with sound lines: rows, entries, terms, pages
+-- ---- sound lines: rows, entries, terms, lines
 
 module _ (n : ℕ) (h h′ : List (Line Items)) (w w′ : List (Line Key))
     (sh : SoundTerms sameItems (onSpins n) (wholeLines h)) (sh′ : SoundTerms sameItems (onSpins n) (wholeLines h′))
     (sw : SoundTerms sameKey (pairOnSpins n) (wholeLines w)) (sw′ : SoundTerms sameKey (pairOnSpins n) (wholeLines w′))
     (h-whole : each (λ x xs. bothWhole (x .1)) h ≡ true) (h-whole′ : each (λ x xs. bothWhole (x .1)) h′ ≡ true)
     (w-whole : each (λ x xs. bothWhole (x .1)) w ≡ true) (w-whole′ : each (λ x xs. bothWhole (x .1)) w′ ≡ true) where
-  pages-from-rows : SameRows n (wholeLines h) (wholeLines w) (wholeLines h′) (wholeLines w′) → SamePage sameItems h h′ × SamePage sameKey w w′
-  pages-from-rows e =
+  lines-from-rows : SameRows n (wholeLines h) (wholeLines w) (wholeLines h′) (wholeLines w′) → SameLines sameItems h h′ × SameLines sameKey w w′
+  lines-from-rows e =
       let f = rows-entries n (wholeLines h) (wholeLines h′) (wholeLines w) (wholeLines w′) (sound-fits n (wholeLines h) sh) (sound-fits n (wholeLines h′) sh′) (sound-pairs-fit n (wholeLines w) sw) (sound-pairs-fit n (wholeLines w′) sw′) in
       let t = entries-determine n (wholeLines h) (wholeLines w) (wholeLines h′) (wholeLines w′) (record { hamiltonian = sh; noise = sw }) (record { hamiltonian = sh′; noise = sw′ }) .0 (f .0 e) in
-      (pages-same sameItems h h′ h-whole h-whole′ .0 (t .0), pages-same sameKey w w′ w-whole w-whole′ .0 (t .1))
+      (lines-same sameItems h h′ h-whole h-whole′ .0 (t .0), lines-same sameKey w w′ w-whole w-whole′ .0 (t .1))
 
-  rows-from-pages : SamePage sameItems h h′ → SamePage sameKey w w′ → SameRows n (wholeLines h) (wholeLines w) (wholeLines h′) (wholeLines w′)
-  rows-from-pages p q =
+  rows-from-lines : SameLines sameItems h h′ → SameLines sameKey w w′ → SameRows n (wholeLines h) (wholeLines w) (wholeLines h′) (wholeLines w′)
+  rows-from-lines p q =
       let f = rows-entries n (wholeLines h) (wholeLines h′) (wholeLines w) (wholeLines w′) (sound-fits n (wholeLines h) sh) (sound-fits n (wholeLines h′) sh′) (sound-pairs-fit n (wholeLines w) sw) (sound-pairs-fit n (wholeLines w′) sw′) in
       f .1 (entries-determine n (wholeLines h) (wholeLines w) (wholeLines h′) (wholeLines w′) (record { hamiltonian = sh; noise = sw }) (record { hamiltonian = sh′; noise = sw′ }) .1
-      (pages-same sameItems h h′ h-whole h-whole′ .1 p, pages-same sameKey w w′ w-whole w-whole′ .1 q))
+      (lines-same sameItems h h′ h-whole h-whole′ .1 p, lines-same sameKey w w′ w-whole w-whole′ .1 q))
 
 -- ---- a system after calls
 
@@ -92,9 +92,9 @@ module _ (calls : List Call) where
   unfolding systemAfter
   grouped = ap (λ (z : Said Unit × PauliLindbladOpenSystem). z .1) both-grouped
 
-  row-of-lines : (n r : ℕ) → exactEntriesOf (systemAfter calls) n r ≡ lineRow n model r
-  unfolding lineRow exactEntriesOf
-  row-of-lines n r = ap (λ s. exactEntriesOf s n r) grouped ∙ ap (rowIn halves false) (contributions n r (setsAfter calls .hamiltonian) (setsAfter calls .noise)) ∙ ap₂ (λ h w. rowIn halves false (wholeContributions n r (wholeLines h) (wholeLines w))) (held .hamiltonian) (held .noise)
+  row-of-lines : (n r : ℕ) → exactRowEntries (systemAfter calls) n r ≡ lineRow n model r
+  unfolding lineRow exactRowEntries
+  row-of-lines n r = ap (λ s. exactRowEntries s n r) grouped ∙ ap (rowIn halves false) (contributions n r (setsAfter calls .hamiltonian) (setsAfter calls .noise)) ∙ ap₂ (λ h w. rowIn halves false (wholeContributions n r (wholeLines h) (wholeLines w))) (held .hamiltonian) (held .noise)
 
   module _ (n : ℕ) (p : Premises n model) where
     h-sound : SoundTerms sameItems (onSpins n) (wholeLines (model .hamiltonian))
@@ -125,7 +125,7 @@ condition-3 a b n p q = (there, back)
   where
     there : RowsAgree n (systemAfter a) (systemAfter b) → SameModel (modelAfter a) (modelAfter b)
     there e =
-        let t = pages-from-rows n (modelAfter a .hamiltonian) (modelAfter b .hamiltonian) (modelAfter a .noise) (modelAfter b .noise)
+        let t = lines-from-rows n (modelAfter a .hamiltonian) (modelAfter b .hamiltonian) (modelAfter a .noise) (modelAfter b .noise)
         (h-sound a n p) (h-sound b n q) (w-sound a n p) (w-sound b n q)
         (p .deliverable .hamiltonian-whole) (q .deliverable .hamiltonian-whole) (p .deliverable .noise-whole) (q .deliverable .noise-whole)
         (λ r hr. sym (row-of-lines a n r) ∙ e r hr ∙ row-of-lines b n r) in
@@ -134,7 +134,7 @@ condition-3 a b n p q = (there, back)
     back : SameModel (modelAfter a) (modelAfter b) → RowsAgree n (systemAfter a) (systemAfter b)
     back m r hr =
         row-of-lines a n r
-        ∙ rows-from-pages n (modelAfter a .hamiltonian) (modelAfter b .hamiltonian) (modelAfter a .noise) (modelAfter b .noise)
+        ∙ rows-from-lines n (modelAfter a .hamiltonian) (modelAfter b .hamiltonian) (modelAfter a .noise) (modelAfter b .noise)
         (h-sound a n p) (h-sound b n q) (w-sound a n p) (w-sound b n q)
         (p .deliverable .hamiltonian-whole) (q .deliverable .hamiltonian-whole) (p .deliverable .noise-whole) (q .deliverable .noise-whole) (m .hamiltonian) (m .noise) r hr
         ∙ sym (row-of-lines b n r)

@@ -24,7 +24,7 @@ use Rattle.noise_sets.specs.declared.NoiseTerm.{NoiseTerm}
 use Rattle.noise_sets.specs.declared.NoiseSet.{NoiseSet}
 use Rattle.open_system.specs.declared.PauliLindbladOpenSystem.{PauliLindbladOpenSystem}
 use Rattle.hamiltonians.specs.Reals.{hamiltonianTerms}
-use Rattle.outside_sites.specs.SystemItems.{itemsOf}
+use Rattle.outside_sites.specs.SystemItems.{systemItems}
 use Rattle.exact_rows.specs.ExactRows.{wholeTerms}
 use Rattle.outside_sites.proofs.OutsideLaws.{outside-none, first-inside, reach-below, rest-inside}
 use Rattle.exact_entries.proofs.PassedLaws.{products, passed, gives-row}
@@ -59,8 +59,8 @@ unfolding each
 inside-both n [] b = refl
 inside-both n (p ∷ a) b = ap (λ t. leb (reach p) n && t) (inside-both n a b) ∙ sym (and-assoc (leb (reach p) n) (inside n a) (inside n b))
 
-inside-sides : (n : ℕ) (l : List NoiseTerm) → inside n (pairs.itemsOf l) ≡ each (λ t ts. leb (reach (t .left)) n && leb (reach (t .right)) n) l
-unfolding each pairs.itemsOf concatMap
+inside-sides : (n : ℕ) (l : List NoiseTerm) → inside n (pairs.sidesOf l) ≡ each (λ t ts. leb (reach (t .left)) n && leb (reach (t .right)) n) l
+unfolding each pairs.sidesOf concatMap
 inside-sides n [] = refl
 inside-sides n (t ∷ l) =
     ap (λ b. leb (reach (t .left)) n && (leb (reach (t .right)) n && b)) (inside-sides n l)
@@ -78,9 +78,9 @@ abbrev partsWhole : {K : Type 0} → List (Line K) → Bool
 partsWhole l = each (λ x xs. bothWhole (x .1)) l
 
 module _ (h : PauliHamiltonian) (w : NoiseSet) where
-  inside-lines : (n : ℕ) → inside n (itemsOf (hamiltonianTerms h) (pairs.heldBy w)) ≡ (sitesBelow n (realLines h) && pairSitesBelow n (noiseLines w))
+  inside-lines : (n : ℕ) → inside n (systemItems (hamiltonianTerms h) (pairs.heldBy w)) ≡ (sitesBelow n (realLines h) && pairSitesBelow n (noiseLines w))
   inside-lines n =
-      inside-both n (map (λ t. t .items) (hamiltonianTerms h)) (pairs.itemsOf (pairs.heldBy w))
+      inside-both n (map (λ t. t .items) (hamiltonianTerms h)) (pairs.sidesOf (pairs.heldBy w))
       ∙ ap₂ _&&_
       (each-map _ (λ t ts. leb (reach (t .items)) n) (λ p qs. leb (reach p) n) (λ t ts. refl) (hamiltonianTerms h)
       ∙ each-map reals.complexTerm (λ t ts. leb (reach (t .items)) n) (λ t ts. leb (reach (t .items)) n) (λ t ts. refl) (reals.heldBy h)

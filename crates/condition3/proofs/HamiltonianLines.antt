@@ -26,7 +26,7 @@ use Rattle.hamiltonians.proofs.RealValidAnswers as real_answers
 use Rattle.condition3.specs.ReferenceModel.{Line, realPart, writeLine, addLine, unlessFull, unlessRefused, lawfulTerm}
 use Rattle.condition3.proofs.LineLaws.{linesOf, Faithful}
 use Rattle.condition3.proofs.AnswerLaws.{past, either}
-use Rattle.condition3.proofs.PageLaws.{arguments-refused}
+use Rattle.condition3.proofs.WrittenLines.{arguments-refused}
 use Rattle.condition3.proofs.SetLines.{set-lines, add-lines}
 
 abbrev pub realLines : PauliHamiltonian → List (Line Items)

@@ -1,6 +1,6 @@
 -- A system handed in that number 0 lets pass is what the list that sets its terms in their order makes.
 -- Assumes nothing.
-use Prim.Native.Nat.{_+_, _≤_, _<_}
+use Prim.Native.Nat.{_≤_, _<_}
 use native.Mathlib.Omega.{arith}
 use mathlib.Core.Path.{_≡_, refl, sym, ap, subst, _∙_}
 use mathlib.Core.Bool.{Bool, true, false, not, _||_, _&&_, or-true}

@@ -1,6 +1,6 @@
 pub mod LineLaws
 pub mod AnswerLaws
-pub mod PageLaws
+pub mod WrittenLines
 pub mod SetLines
 pub mod HamiltonianLines
 pub mod NoiseLines

@@ -3,12 +3,11 @@
 use mathlib.Core.Path.{_≡_, refl, ap, _∙_}
 use mathlib.Core.Bool.{true}
 use mathlib.Core.List.{List, [], _∷_}
-use Rattle.items.specs.Record.{sameItems}
+use Rattle.items.specs.Record.{sameItems, sameKey}
 use Rattle.terms.specs.Runs.{run}
 use Rattle.hamiltonians.specs.Reals as reals
 use Rattle.term_sets.specs.Complexes as operators
 use Rattle.hamiltonians.proofs.RealValidLaws as real_valid
-use Rattle.noise_sets.specs.Pairs.{sameKey}
 use Rattle.noise_sets.specs.Pairs as pairs
 use Rattle.noise_sets.proofs.ValidLaws as pairs_valid
 use Rattle.condition3.specs.Calls.{Call, setHamiltonian, addHamiltonian, setNoise, addNoise, addNoiseFromFullOperators, Sets, newSets, called, setsAfter}

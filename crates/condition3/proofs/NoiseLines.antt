@@ -7,13 +7,15 @@ use mathlib.Core.List.{List, [], _∷_, _++_}
 use mathlib.Core.Option.{Option, none, some}
 use lib.Dec.{eqb}
 use lib.ListN.{length}
+use Rattle.items.proofs.SameLaws.{same-key-equal}
+use Rattle.items.specs.Record.{sameKey}
 use Rattle.letters.proofs.TestLaws.{and-true, and-left, and-false}
 use Rattle.complex.specs.Complex.{isZero, inRange}
 use Rattle.complex.specs.declared.Complex.{Complex}
 use Rattle.complex.proofs.FloatLaws.{clash}
 use Rattle.terms.specs.Keyed.{each, concatMap}
 use Rattle.terms.specs.Setting.{mostTerms, addAll}
-use Rattle.terms.specs.Chains.{pairTerms as fullTerms}
+use Rattle.terms.specs.Chains.{fullTerms}
 use Rattle.terms.specs.Entries as entries
 use Rattle.terms.proofs.KeyedLaws.{map-append}
 use Rattle.terms.proofs.EachLaws.{each-follows}
@@ -21,7 +23,7 @@ use Rattle.term_sets.specs.Complexes.{complexTerms, complexProducts}
 use Rattle.term_sets.specs.Complexes as operators
 use Rattle.term_sets.specs.declared.Term.{Term}
 use Rattle.term_sets.specs.declared.TermSet.{TermSet}
-use Rattle.noise_sets.specs.Pairs.{Key, sameKey, pairTerms, isEmpty, heldBy, goodCoefficient, validSet}
+use Rattle.noise_sets.specs.Pairs.{Key, pairTerms, isEmpty, heldBy, goodCoefficient, validSet}
 use Rattle.noise_sets.specs.Answers.{validKey, emptySide}
 use Rattle.noise_chains.specs.ChainAnswers.{setPair, addPair, addFullOperators, allInRange, collected}
 use Rattle.noise_sets.specs.declared.NoiseTerm.{NoiseTerm}
@@ -29,12 +31,12 @@ use Rattle.noise_sets.specs.declared.NoiseSet.{NoiseSet}
 use Rattle.terms.proofs.FilledLaws.{held-filled}
 use Rattle.noise_sets.proofs.SetLaws.{noiseSets}
 use Rattle.terms.proofs.ValidSetLaws as valid_sets
-use Rattle.noise_sets.proofs.ValidLaws.{same-key-equal, validNoiseSets}
+use Rattle.noise_sets.proofs.ValidLaws.{validNoiseSets}
 use Rattle.noise_chains.proofs.NoiseValidAnswers as answers
 use Rattle.condition3.specs.ReferenceModel.{Line, writeLine, addLine, addLines, unlessFull, linesInRange, unlessRefused, lawfulPair, lawfulOperators, fullLines}
 use Rattle.condition3.proofs.LineLaws.{lineOf, linesOf, Faithful, linesIf, lines-addAll}
 use Rattle.condition3.proofs.AnswerLaws.{past, unless, either}
-use Rattle.condition3.proofs.PageLaws.{arguments-refused, range-refused, call-accepted, range-is}
+use Rattle.condition3.proofs.WrittenLines.{arguments-refused, range-refused, call-accepted, range-is}
 use Rattle.condition3.proofs.SetLines.{set-lines, add-lines}
 
 -- the two parts of a complex coefficient
@@ -121,15 +123,15 @@ unfolding fullTerms fullLines
 full-lines z l r = lines-concat _ _ (λ x. lines-concat _ _ (λ y. line-pair (isEmpty (x .items)) (isEmpty (y .items)) _) r) l
 
 module _ (s : NoiseSet) (l r : TermSet) (z : Complex) (v : validSet s ≡ true) where
-  -- the terms that the call adds, and what they make of the page
+  -- the terms that the call adds, and what they make of the lines
   abbrev terms : List NoiseTerm
   terms = fullTerms complexTerms pairTerms complexProducts isEmpty z (operators.heldBy l) (operators.heldBy r)
 
-  abbrev page : Option (List (Line Key))
-  page = addLines sameKey (fullLines z (operators.heldBy l) (operators.heldBy r)) (noiseLines s)
+  abbrev lines : Option (List (Line Key))
+  lines = addLines sameKey (fullLines z (operators.heldBy l) (operators.heldBy r)) (noiseLines s)
 
-  page-is : linesIf pairTerms itself pairs-faithful (addAll pairTerms terms (heldBy s)) ≡ page
-  page-is = lines-addAll pairTerms itself pairs-faithful terms (heldBy s) (few s v) ∙ ap (λ m. addLines sameKey m (noiseLines s)) (full-lines z (operators.heldBy l) (operators.heldBy r))
+  lines-are : linesIf pairTerms itself pairs-faithful (addAll pairTerms terms (heldBy s)) ≡ lines
+  lines-are = lines-addAll pairTerms itself pairs-faithful terms (heldBy s) (few s v) ∙ ap (λ m. addLines sameKey m (noiseLines s)) (full-lines z (operators.heldBy l) (operators.heldBy r))
 
   abbrev lawful : Bool
   lawful = lawfulOperators l r z
@@ -172,15 +174,15 @@ module _ (s : NoiseSet) (l r : TermSet) (z : Complex) (v : validSet s ≡ true) 
   pub full-set-valid : validSet (addFullOperators s l r z .1) ≡ true
   full-set-valid = either (λ x. validSet x ≡ true) s (addFullOperators s l r z) (λ o. answers.full-valid s l r z) (answers.full-refused s l r z) v
 
-  pub full-set-lines : noiseLines (addFullOperators s l r z .1) ≡ unlessRefused lawful page (noiseLines s)
+  pub full-set-lines : noiseLines (addFullOperators s l r z .1) ≡ unlessRefused lawful lines (noiseLines s)
   unfolding addFullOperators
   full-set-lines =
       past P (validSet s) _ _ _ _ (λ e. absurd (clash (sym v ∙ e))) (λ u.
-      past P (operators.validSet false l) _ _ _ _ (λ e. sym (arguments-refused lawful (noiseLines s) (bad-left e) page)) (λ a.
-      past P (operators.validSet false r) _ _ _ _ (λ e. sym (arguments-refused lawful (noiseLines s) (bad-right e) page)) (λ b.
-      unless P empty _ _ _ _ (λ e. sym (arguments-refused lawful (noiseLines s) (no-terms e) page)) (λ c.
-      past P (inRange z) _ _ _ _ (λ e. sym (arguments-refused lawful (noiseLines s) (bad-number e) page)) (λ d.
-      chain-lines (good-operators a b c d) (addAll pairTerms terms (heldBy s)) ∙ ap (λ o. unlessRefused lawful o (noiseLines s)) page-is)))))
+      past P (operators.validSet false l) _ _ _ _ (λ e. sym (arguments-refused lawful (noiseLines s) (bad-left e) lines)) (λ a.
+      past P (operators.validSet false r) _ _ _ _ (λ e. sym (arguments-refused lawful (noiseLines s) (bad-right e) lines)) (λ b.
+      unless P empty _ _ _ _ (λ e. sym (arguments-refused lawful (noiseLines s) (no-terms e) lines)) (λ c.
+      past P (inRange z) _ _ _ _ (λ e. sym (arguments-refused lawful (noiseLines s) (bad-number e) lines)) (λ d.
+      chain-lines (good-operators a b c d) (addAll pairTerms terms (heldBy s)) ∙ ap (λ o. unlessRefused lawful o (noiseLines s)) lines-are)))))
     where
       P : NoiseSet → Type 0
-      P x = noiseLines x ≡ unlessRefused lawful page (noiseLines s)
+      P x = noiseLines x ≡ unlessRefused lawful lines (noiseLines s)

@@ -12,7 +12,7 @@ use Rattle.letters.proofs.TestLaws.{and-true, and-left, and-right}
 use Rattle.complex.specs.Complex.{plusZero, isZero, partInRange, inRange}
 use Rattle.complex.specs.declared.Complex.{Complex}
 use Rattle.complex.proofs.FloatLaws.{is-zero-real}
-use Rattle.items.specs.Record.{valid, reach, sameItems}
+use Rattle.items.specs.Record.{valid, reach, sameItems, sameKey}
 use Rattle.items.specs.declared.Items.{Items}
 use Rattle.terms.specs.Keyed.{has, each}
 use Rattle.terms.specs.Kind.{Terms}
@@ -27,7 +27,7 @@ use Rattle.hamiltonians.specs.declared.pauli_hamiltonian.PauliHamiltonian.{Paul
 use Rattle.terms.proofs.ValidSetLaws as valid_sets
 use Rattle.hamiltonians.proofs.RealValidLaws.{validHamiltonians}
 use Rattle.hamiltonians.proofs.RealValidLaws as real_valid
-use Rattle.noise_sets.specs.Pairs.{Key, sameKey, pairTerms, isEmpty}
+use Rattle.noise_sets.specs.Pairs.{Key, pairTerms, isEmpty}
 use Rattle.noise_sets.specs.Pairs as pairs
 use Rattle.noise_sets.specs.declared.NoiseSet.{NoiseSet}
 use Rattle.noise_sets.proofs.ValidLaws.{validNoiseSets}
@@ -57,16 +57,16 @@ has-lines S parts k [] = refl
 has-lines S parts k (x ∷ l) = ap (λ b. S .same (S .key x) k || b) (has-lines S parts k l)
 
 -- keys that pass a test, no key twice, and no zero: so are the terms with whole coefficients
-pub sound-lines : {K : Type 0} (same : K → K → Bool) (good : K → Bool) (page : List (Line K))
-    → each (λ x xs. good (x .0)) page ≡ true → each (λ x xs. not (hasLine same (x .0) xs)) page ≡ true
-    → each (λ x xs. not (isZero (x .1))) page ≡ true → each (λ x xs. bothWhole (x .1)) page ≡ true
-    → SoundTerms same good (wholeLines page)
-sound-lines same good page g d z w = record {
-  keys = each-map wholeLine (λ x xs. good (x .0)) (λ t ts. good (t .0)) (λ x xs. refl) page ∙ g;
-  different = each-map wholeLine (λ x xs. not (hasLine same (x .0) xs)) (λ t ts. not (has (λ u. same (u .0) (t .0)) ts)) (λ x xs. ap not (has-whole same (x .0) xs)) page ∙ d;
+pub sound-lines : {K : Type 0} (same : K → K → Bool) (good : K → Bool) (lines : List (Line K))
+    → each (λ x xs. good (x .0)) lines ≡ true → each (λ x xs. not (hasLine same (x .0) xs)) lines ≡ true
+    → each (λ x xs. not (isZero (x .1))) lines ≡ true → each (λ x xs. bothWhole (x .1)) lines ≡ true
+    → SoundTerms same good (wholeLines lines)
+sound-lines same good lines g d z w = record {
+  keys = each-map wholeLine (λ x xs. good (x .0)) (λ t ts. good (t .0)) (λ x xs. refl) lines ∙ g;
+  different = each-map wholeLine (λ x xs. not (hasLine same (x .0) xs)) (λ t ts. not (has (λ u. same (u .0) (t .0)) ts)) (λ x xs. ap not (has-whole same (x .0) xs)) lines ∙ d;
   nonzero =
-      each-map wholeLine (λ x xs. not (eqG (wholeLine x .1) 𝟘)) (λ t ts. not (eqG (t .1) 𝟘)) (λ x xs. refl) page
-      ∙ each-both (λ x xs. not (isZero (x .1))) (λ x xs. bothWhole (x .1)) (λ x xs. not (eqG (wholeLine x .1) 𝟘)) (λ x xs a b. ap not (gauss-nonzero (x .1) b (not-true (isZero (x .1)) a))) page z w;
+      each-map wholeLine (λ x xs. not (eqG (wholeLine x .1) 𝟘)) (λ t ts. not (eqG (t .1) 𝟘)) (λ x xs. refl) lines
+      ∙ each-both (λ x xs. not (isZero (x .1))) (λ x xs. bothWhole (x .1)) (λ x xs. not (eqG (wholeLine x .1) 𝟘)) (λ x xs a b. ap not (gauss-nonzero (x .1) b (not-true (isZero (x .1)) a))) lines z w;
 }
 
 -- ---- the Hamiltonian's lines

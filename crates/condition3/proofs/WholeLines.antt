@@ -1,4 +1,4 @@
--- Lines with whole parts as terms with whole coefficients: pages are the same exactly if these terms are, and the terms of a valid set are sound.
+-- Lines with whole parts as terms with whole coefficients: lines are the same exactly if these terms are, and the terms of a valid set are sound.
 -- Assumes nothing.
 use mathlib.Core.Path.{_≡_, refl, sym, ap, _∙_}
 use mathlib.Core.Bool.{Bool, true, false, _||_, cond}
@@ -19,7 +19,7 @@ use Rattle.superoperator.specs.Systems.{SameTerms}
 use Rattle.complex.specs.Wholes.{isWhole, bothWhole}
 use Rattle.exact_rows.specs.ExactRows.{gaussOf}
 use Rattle.condition3.specs.ReferenceModel.{Line, realPart, onLine}
-use Rattle.condition3.specs.Condition3.{sameParts, hasLine, SamePage}
+use Rattle.condition3.specs.Condition3.{sameParts, hasLine, SameLines}
 use Rattle.complex.proofs.WholeLaws.{whole-equal, zero-whole, zero-parts}
 
 -- ---- one number
@@ -96,7 +96,7 @@ module _ {K : Type 0} (same : K → K → Bool) where
       go true e = refl
       go false e = e
 
-  -- what stands on a page of whole numbers is whole
+  -- what stands on lines of whole numbers is whole
   line-whole : (k : K) (l : List (Line K)) → each (λ x xs. bothWhole (x .1)) l ≡ true → bothWhole (onLine same k l) ≡ true
   unfolding onLine
   line-whole k [] h = zero-both
@@ -117,8 +117,8 @@ module _ {K : Type 0} (same : K → K → Bool) where
       go false h e = h e
 
   module _ (l m : List (Line K)) (hl : each (λ x xs. bothWhole (x .1)) l ≡ true) (hm : each (λ x xs. bothWhole (x .1)) m ≡ true) where
-    terms-from-page : SamePage same l m → SameTerms same (wholeLines l) (wholeLines m)
-    terms-from-page p = record {
+    terms-from-lines : SameLines same l m → SameTerms same (wholeLines l) (wholeLines m)
+    terms-from-lines p = record {
       keys = λ k. has-whole k l ∙ p .keys k ∙ sym (has-whole k m);
       coefficients = λ k. coefficient-whole k l ∙ under k (hasLine same k l) refl ∙ sym (coefficient-whole k m);
     }
@@ -127,11 +127,11 @@ module _ {K : Type 0} (same : K → K → Bool) where
         under k true e = gauss-same (onLine same k l) (onLine same k m) (line-whole k l hl) (line-whole k m hm) (p .parts k e)
         under k false e = ap gaussOf (line-none k l e ∙ sym (line-none k m (sym (p .keys k) ∙ e)))
 
-    page-from-terms : SameTerms same (wholeLines l) (wholeLines m) → SamePage same l m
-    page-from-terms t = record {
+    lines-from-terms : SameTerms same (wholeLines l) (wholeLines m) → SameLines same l m
+    lines-from-terms t = record {
       keys = λ k. sym (has-whole k l) ∙ t .keys k ∙ has-whole k m;
       parts = λ k e. same-gauss (onLine same k l) (onLine same k m) (line-whole k l hl) (line-whole k m hm) (sym (coefficient-whole k l) ∙ t .coefficients k ∙ coefficient-whole k m);
     }
 
-    pub pages-same : SameTerms same (wholeLines l) (wholeLines m) ↔ SamePage same l m
-    pages-same = (page-from-terms, terms-from-page)
+    pub lines-same : SameTerms same (wholeLines l) (wholeLines m) ↔ SameLines same l m
+    lines-same = (lines-from-terms, terms-from-lines)

@@ -46,7 +46,7 @@ listing =
 
 pub worked-rows : map (exactRow (systemAfter worked) 1) (0 ∷ 1 ∷ 2 ∷ 3 ∷ []) ≡ map gives listing
 unfolding systemAfter setsAfter run called setReal setPair groupAnswer validSystem
-    exactRow exactRowOfTerms checkedRow unlessOutside unlessNotWhole outside pairs.itemsOf wholeTerms exactContributions gaussOf partsOf bothWhole
+    exactRow exactRowOfTerms checkedRow unlessOutside unlessNotWhole outside pairs.sidesOf wholeTerms exactContributions gaussOf partsOf bothWhole
     ofInt ofBits eq atMost partInRange inRange isZero isPlusZero
     every firstFrom 𝟘 𝟙 −𝟙 i⁺ i⁻ _⊕_ _⊗_ i^ eqℤ eqG total two-by-two pauli decoherence bit cell columnOf rowPower
     padded sameList placeValid inShape valid lookup letterAt reach recordOf sameItems support emptyProduct

@@ -12,19 +12,20 @@ use Rattle.refusal.specs.Refusals.{gives, done}
 use Rattle.letters.specs.Gauss.{G}
 use Rattle.complex.specs.declared.Complex.{Complex}
 use Rattle.complex.specs.Wholes.{bothWhole}
-use Rattle.items.specs.Record.{reach, sameItems}
+use Rattle.items.specs.Record.{reach, sameItems, sameKey}
 use Rattle.row_entries.specs.Answers.{mostSpins}
 use Rattle.terms.specs.Keyed.{has, each}
-use Rattle.noise_sets.specs.Pairs.{sameKey, isEmpty}
+use Rattle.noise_sets.specs.Pairs.{isEmpty}
 use Rattle.open_system.specs.declared.PauliLindbladOpenSystem.{PauliLindbladOpenSystem}
 use Rattle.open_system.specs.Grouping.{validSystem, groupAnswer}
-use Rattle.exact_rows.specs.ExactRows.{exactRow, exactEntriesOf}
+use Rattle.exact_rows.specs.ExactRows.{exactRow, exactRowEntries}
 use Rattle.condition3.specs.Calls.{Call, setsAfter, callsThatSet}
 use Rattle.condition3.specs.ReferenceModel.{Line, onLine, Model, modelAfter}
 
--- ---- the premises, said of the lines that a system holds: "What a system holds is the lines of its book"
+-- ---- the premises of the tender's condition 3, said of the lines that a system holds; document 01: "What a system holds is the lines of its book"
 
--- what numbers 7, 8 and 11 let pass: n is at most 31, every site held is below n, every part is whole and of at most 2^40
+-- what numbers 7, 8 and 11 let pass; the tender: "only coefficients whose parts are whole and at most 2^40 in size", and a "number of spins up
+-- to 31 that is above every site they hold"
 pub record Deliverable (n : ℕ) (m : Model) : Type 0 where
   pub spins : n ≤ mostSpins
   pub hamiltonian-sites : each (λ x xs. leb (reach (x .0)) n) (m .hamiltonian) ≡ true
@@ -32,12 +33,12 @@ pub record Deliverable (n : ℕ) (m : Model) : Type 0 where
   pub hamiltonian-whole : each (λ x xs. bothWhole (x .1)) (m .hamiltonian) ≡ true
   pub noise-whole : each (λ x xs. bothWhole (x .1)) (m .noise) ≡ true
 
--- and no Hamiltonian term is on the empty product, which commutes with everything
+-- "and no Hamiltonian term on the empty product", which commutes with everything
 pub record Premises (n : ℕ) (m : Model) : Type 0 where
   pub deliverable : Deliverable n m
   pub no-empty-product : each (λ x xs. not (isEmpty (x .0))) (m .hamiltonian) ≡ true
 
--- ---- the same pages
+-- ---- the same lines
 
 -- "parts that are equal as numbers, +0 and -0 alike"
 unfoldable pub sameParts : Complex → Complex → Bool
@@ -48,20 +49,20 @@ abbrev pub hasLine : {K : Type 0} → (K → K → Bool) → K → List (Line K)
 hasLine same k l = has (λ x. same (x .0) k) l
 
 -- "Pages are the same when they have the same keys and, under each, parts that are equal as numbers"
-pub record SamePage {K : Type 0} (same : K → K → Bool) (l m : List (Line K)) : Type 0 where
+pub record SameLines {K : Type 0} (same : K → K → Bool) (l m : List (Line K)) : Type 0 where
   pub keys : (k : K) → hasLine same k l ≡ hasLine same k m
   pub parts : (k : K) → hasLine same k l ≡ true → sameParts (onLine same k l) (onLine same k m) ≡ true
 
 pub record SameModel (a b : Model) : Type 0 where
-  pub hamiltonian : SamePage sameItems (a .hamiltonian) (b .hamiltonian)
-  pub noise : SamePage sameKey (a .noise) (b .noise)
+  pub hamiltonian : SameLines sameItems (a .hamiltonian) (b .hamiltonian)
+  pub noise : SameLines sameKey (a .noise) (b .noise)
 
 -- ---- rows
 
 -- "Exact rows agree at a row when the sums above give both systems the same columns with the same two parts in each"; "Every row means 0 to
 -- d·d - 1"
 unfoldable pub RowsAgree : ℕ → PauliLindbladOpenSystem → PauliLindbladOpenSystem → Type 0
-RowsAgree n s t = (r : ℕ) → r < 2 ^ n * 2 ^ n → exactEntriesOf s n r ≡ exactEntriesOf t n r
+RowsAgree n s t = (r : ℕ) → r < 2 ^ n * 2 ^ n → exactRowEntries s n r ≡ exactRowEntries t n r
 
 -- "`group` then makes the system"
 unfoldable pub systemAfter : List Call → PauliLindbladOpenSystem
@@ -104,7 +105,7 @@ Condition3HandedIn =
 -- row r of the system s, which holds the lines of m: the exact row call gives l exactly if numbers 7, 8 and 11 and, for the row, 9 let it pass
 -- and l is the list that is compared
 abbrev pub RowDelivered : Model → PauliLindbladOpenSystem → ℕ → ℕ → List (ℕ × G) → Type 0
-RowDelivered m s n r l = (Deliverable n m × (r < 2 ^ n * 2 ^ n) × (l ≡ exactEntriesOf s n r)) ↔ (exactRow s n r ≡ gives l)
+RowDelivered m s n r l = (Deliverable n m × (r < 2 ^ n * 2 ^ n) × (l ≡ exactRowEntries s n r)) ↔ (exactRow s n r ≡ gives l)
 
 -- "this is what the exact row call delivers wherever the buffers hold it"
 abbrev pub RowsDelivered : Type 0

@@ -8,7 +8,7 @@ use lib.ListN.{length}
 use lib.Ieee.{Float}
 use Rattle.complex.specs.Complex.{plusZero, sumOf, productOf, conjugateOf, isZero, inRange}
 use Rattle.complex.specs.declared.Complex.{Complex}
-use Rattle.items.specs.Record.{valid, sameItems}
+use Rattle.items.specs.Record.{valid, sameItems, sameKey}
 use Rattle.items.specs.declared.Items.{Items}
 use Rattle.terms.specs.Keyed.{concatMap}
 use Rattle.terms.specs.Runs.{run}
@@ -16,7 +16,7 @@ use Rattle.terms.specs.Setting.{mostTerms}
 use Rattle.term_sets.specs.Complexes as operators
 use Rattle.term_sets.specs.declared.Term.{Term}
 use Rattle.term_sets.specs.declared.TermSet.{TermSet}
-use Rattle.noise_sets.specs.Pairs.{Key, sameKey, isEmpty}
+use Rattle.noise_sets.specs.Pairs.{Key, isEmpty}
 use Rattle.condition3.specs.Calls.{Call, setHamiltonian, addHamiltonian, setNoise, addNoise, addNoiseFromFullOperators}
 
 -- "A line is a key and two f64 parts"
@@ -27,7 +27,7 @@ Line K = K × Complex
 abbrev pub realPart : Float → Complex
 realPart x = record { re = x; im = plusZero }
 
--- ---- one page
+-- ---- the lines of one set
 
 module _ {K : Type 0} (same : K → K → Bool) where
   -- "the key's line, if any, is struck out"
@@ -49,7 +49,7 @@ module _ {K : Type 0} (same : K → K → Bool) where
   onLine k [] = realPart plusZero
   onLine k (x ∷ xs) = cond (same (x .0) k) (x .1) (onLine k xs)
 
-  -- "`add_operator_product` writes the line's coefficient plus the given one, each part rounded once"
+  -- "`add_operator_product` writes the line's coefficient (+0 in both parts without a line) plus the given one, each part rounded once"
   unfoldable pub addLine : K → Complex → List (Line K) → List (Line K)
   addLine k z l = writeLine k (sumOf (onLine k l) z) l
 
@@ -73,8 +73,8 @@ linesInRange (x ∷ xs) = inRange (x .1) && linesInRange xs
 -- "A call that the numbers below refuse … leaves both pages as before it": `lawful` says that its arguments are not refused, l is what its
 -- steps make of the page
 unfoldable pub unlessRefused : {K : Type 0} → Bool → Option (List (Line K)) → List (Line K) → List (Line K)
-unlessRefused lawful none page = page
-unlessRefused lawful (some l) page = cond (lawful && linesInRange l) l page
+unlessRefused lawful none lines = lines
+unlessRefused lawful (some l) lines = cond (lawful && linesInRange l) l lines
 
 -- ---- the arguments
 
@@ -98,7 +98,7 @@ fullLines v l r =
     cond (isEmpty (x .items) || isEmpty (y .items)) []
     (((x .items, y .items), productOf (productOf (conjugateOf (y .coefficient)) (x .coefficient)) v) ∷ [])) r) l
 
--- ---- both pages
+-- ---- the lines of both sets
 
 pub record Model : Type 0 where
   pub hamiltonian : List (Line Items)

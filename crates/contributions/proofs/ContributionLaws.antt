@@ -2,26 +2,25 @@
 -- `noiseTerms` say. Assumes nothing.
 use mathlib.Core.Path.{_≡_, sym, ap, _∙_}
 use mathlib.Core.List.{[], _∷_, map}
-use Prim.Native.Nat.{ℕ, _*_, _/_, _%_, _^_, _≤_, _<_}
+use Prim.Native.Nat.{ℕ, _*_, _/_, _%_, _^_, _<_}
 use native.Mathlib.Nat.{mod-lt, div-lt-iff-lt-mul}
 use lib.Pow.{pow-pos}
 use Rattle.letters.specs.Matrices.{Letters, pauli, decoherence}
 use Rattle.items.specs.Record.{letterAt}
-use Rattle.row_entries.specs.Answers.{mostSpins}
 use Rattle.items.specs.Masks.{masksOf}
 use Rattle.items.specs.declared.Items.{Items}
 use Rattle.master_equation.specs.Numbers.{Numbers}
 use Rattle.master_equation.specs.Contributions.{operatorTerms, commutatorTerms, noiseTerms}
-use Rattle.row_entries.specs.Entries.{entryOf, commutatorEntries, noiseEntries}
+use Rattle.row_entries.specs.Entries.{operatorEntry, commutatorEntries, noiseEntries}
 use Rattle.contributions.specs.Values.{whole, half, jumpAndHalves}
 use Rattle.row_entries.proofs.EntryLaws.{entry-small, OfKind, pauli-kind, decoherence-kind, Within, column-inside, power-inside}
 
 module _ {C N : Type 0} (A : Numbers C N) (c : C) where
-  module _ (n : ℕ) (h : n ≤ mostSpins) where
+  module _ (n : ℕ) where
     -- an operator's row
-    pub operator-terms : {M : Letters} → OfKind M → (p : Items) → Within n p → (r : ℕ) → r < 2 ^ n → operatorTerms A n M r (letterAt p) c ≡ whole A c (entryOf M (masksOf p) n r) ∷ []
+    pub operator-terms : {M : Letters} → OfKind M → (p : Items) → Within n p → (r : ℕ) → r < 2 ^ n → operatorTerms A n M r (letterAt p) c ≡ whole A c (operatorEntry M (masksOf p) n r) ∷ []
     unfolding operatorTerms
-    operator-terms o p w r l = rw (column-inside o n h p w r l, power-inside o n h p w r l)
+    operator-terms o p w r l = rw (column-inside o n p w r l, power-inside o n p w r l)
 
     module _ (r : ℕ) (l : r < 2 ^ n * 2 ^ n) where
       first-below : r / 2 ^ n < 2 ^ n
@@ -35,12 +34,12 @@ module _ {C N : Type 0} (A : Numbers C N) (c : C) where
       unfolding commutatorTerms commutatorEntries
       commutator-terms p w =
           let k = r / 2 ^ n in
-          let b = entryOf pauli (masksOf p) n (r % 2 ^ n) .0 in
+          let b = operatorEntry pauli (masksOf p) n (r % 2 ^ n) .0 in
           rw (
-            column-inside pauli-kind n h p w k first-below,
-            power-inside pauli-kind n h p w k first-below,
-            column-inside pauli-kind n h p w (r % 2 ^ n) second-below,
-            power-inside pauli-kind n h p w b (entry-small pauli (masksOf p) n (r % 2 ^ n) .column),
+            column-inside pauli-kind n p w k first-below,
+            power-inside pauli-kind n p w k first-below,
+            column-inside pauli-kind n p w (r % 2 ^ n) second-below,
+            power-inside pauli-kind n p w b (entry-small pauli (masksOf p) n (r % 2 ^ n) .column),
           )
 
       -- a noise row: the jump whole, the halves by -1/2
@@ -48,23 +47,23 @@ module _ {C N : Type 0} (A : Numbers C N) (c : C) where
       unfolding noiseTerms noiseEntries
       noise-terms p q w v =
           let k = r / 2 ^ n in
-          let m = entryOf decoherence (masksOf q) n k .0 in
-          let m′ = entryOf decoherence (masksOf p) n (r % 2 ^ n) .0 in
+          let m = operatorEntry decoherence (masksOf q) n k .0 in
+          let m′ = operatorEntry decoherence (masksOf p) n (r % 2 ^ n) .0 in
           let m-below : m < 2 ^ n = entry-small decoherence (masksOf q) n k .column in
           let m′-below : m′ < 2 ^ n = entry-small decoherence (masksOf p) n (r % 2 ^ n) .column in
           rw (
-            column-inside decoherence-kind n h p w k first-below,
-            power-inside decoherence-kind n h p w k first-below,
-            column-inside decoherence-kind n h q v (r % 2 ^ n) second-below,
-            power-inside decoherence-kind n h q v (r % 2 ^ n) second-below,
-            column-inside decoherence-kind n h q v k first-below,
-            column-inside decoherence-kind n h p w (r % 2 ^ n) second-below,
-            column-inside decoherence-kind n h p w m m-below,
-            power-inside decoherence-kind n h q v m m-below,
-            power-inside decoherence-kind n h p w m m-below,
-            column-inside decoherence-kind n h q v m′ m′-below,
-            power-inside decoherence-kind n h q v m′ m′-below,
-            power-inside decoherence-kind n h p w m′ m′-below,
+            column-inside decoherence-kind n p w k first-below,
+            power-inside decoherence-kind n p w k first-below,
+            column-inside decoherence-kind n q v (r % 2 ^ n) second-below,
+            power-inside decoherence-kind n q v (r % 2 ^ n) second-below,
+            column-inside decoherence-kind n q v k first-below,
+            column-inside decoherence-kind n p w (r % 2 ^ n) second-below,
+            column-inside decoherence-kind n p w m m-below,
+            power-inside decoherence-kind n q v m m-below,
+            power-inside decoherence-kind n p w m m-below,
+            column-inside decoherence-kind n q v m′ m′-below,
+            power-inside decoherence-kind n q v m′ m′-below,
+            power-inside decoherence-kind n p w m′ m′-below,
           )
 
       -- the same from the entries that the code finds

@@ -21,7 +21,7 @@ use Rattle.terms.proofs.KeyedLaws.{concatMap-nil, concatMap-more}
 use Rattle.master_equation.specs.Numbers.{Numbers}
 use Rattle.rows.specs.Floats.{floats}
 use Rattle.master_equation.specs.Contributions.{operatorTerms, commutatorTerms, noiseTerms}
-use Rattle.row_entries.specs.Entries.{entryOf, commutatorEntries, noiseEntries}
+use Rattle.row_entries.specs.Entries.{operatorEntry, commutatorEntries, noiseEntries}
 use Rattle.contributions.specs.Values.{whole, jumpAndHalves, commutatorValues, noiseValues, Arrays, written}
 use Rattle.rows.specs.Buffers.{TwoParts, mostEntries, floatParts, Long, entriesIn, entries}
 use Rattle.rows.proofs.ArrayLaws.{entriesIn-none}
@@ -41,13 +41,13 @@ use Rattle.outside_sites.proofs.AcceptedLaws.{accepted-first, accepted-rest}
 -- in any numbers: m are the masks of the product, x and y the entries that the code finds, a and b the values that it puts
 module _ {C N : Type 0} (A : Numbers C N) (c : C) (n r : ℕ) where
   -- one contribution, with the column and power x
-  put-operator : (kind : Kind) (p : Items) → Accepted n (2 ^ n) r (p ∷ []) → {m : ℕ} → m ≡ masksOf p → {x : ℕ × ℕ} → x ≡ entryOf (lettersOf kind) m (min n mostSpins) r → {a : N} → a ≡ A .scaled (x .1) c
+  put-operator : (kind : Kind) (p : Items) → Accepted n (2 ^ n) r (p ∷ []) → {m : ℕ} → m ≡ masksOf p → {x : ℕ × ℕ} → x ≡ operatorEntry (lettersOf kind) m (min n mostSpins) r → {a : N} → a ≡ A .scaled (x .1) c
       → (l : List (ℕ × N)) {l′ : List (ℕ × N)} → l′ ≡ l ++ (x .0, a) ∷ [] → l′ ≡ l ++ operatorTerms A n (lettersOf kind) r (letterAt p) c
   put-operator kind p k {m} em {x} e ea l put =
       put
       ∙ ap (λ (v : N). l ++ (x .0, v) ∷ []) ea
-      ∙ ap (λ (q : ℕ × ℕ). l ++ (q .0, A .scaled (q .1) c) ∷ []) (few-spins (λ s. entryOf (lettersOf kind) m s r) n (k .few) e ∙ ap (λ (m : ℕ). entryOf (lettersOf kind) m n r) em)
-      ∙ ap (λ (q : List (ℕ × N)). l ++ q) (sym (operator-terms A c n (k .few) (of-kind kind) p (accepted-first p [] k) r (k .below)))
+      ∙ ap (λ (q : ℕ × ℕ). l ++ (q .0, A .scaled (q .1) c) ∷ []) (few-spins (λ s. operatorEntry (lettersOf kind) m s r) n (k .few) e ∙ ap (λ (m : ℕ). operatorEntry (lettersOf kind) m n r) em)
+      ∙ ap (λ (q : List (ℕ × N)). l ++ q) (sym (operator-terms A c n (of-kind kind) p (accepted-first p [] k) r (k .below)))
 
   pub put-commutator : (p : Items) → Accepted n (2 ^ n * 2 ^ n) r (p ∷ []) → {m : ℕ} → m ≡ masksOf p → {left right : ℕ × ℕ} → left ∷ right ∷ [] ≡ commutatorEntries m (min n mostSpins) r
       → {a b : N} → a ≡ A .scaled (left .1) c → b ≡ A .scaled (right .1) c
@@ -60,7 +60,7 @@ module _ {C N : Type 0} (A : Numbers C N) (c : C) (n r : ℕ) where
       ∙ ap (λ (v : N). l′ ++ (right .0, v) ∷ []) eb
       ∙ ap (λ (q : List (ℕ × N)). q ++ y ∷ []) (first ∙ ap (λ (v : N). l ++ (left .0, v) ∷ []) ea)
       ∙ append-assoc l (x ∷ []) (y ∷ [])
-      ∙ ap (λ (q : List (ℕ × N)). l ++ q) (sym (commutator-contributes A c n (k .few) r (k .below) p (accepted-first p [] k) (few-spins (λ s. commutatorEntries m s r) n (k .few) e ∙ ap (λ (m : ℕ). commutatorEntries m n r) em)))
+      ∙ ap (λ (q : List (ℕ × N)). l ++ q) (sym (commutator-contributes A c n r (k .below) p (accepted-first p [] k) (few-spins (λ s. commutatorEntries m s r) n (k .few) e ∙ ap (λ (m : ℕ). commutatorEntries m n r) em)))
 
   pub put-noise : (p q : Items) → Accepted n (2 ^ n * 2 ^ n) r (p ∷ q ∷ []) → {m m′ : ℕ} → m ≡ masksOf p → m′ ≡ masksOf q
       → {jump left right : ℕ × ℕ} → jump ∷ left ∷ right ∷ [] ≡ noiseEntries m m′ (min n mostSpins) r
@@ -81,11 +81,11 @@ module _ {C N : Type 0} (A : Numbers C N) (c : C) (n r : ℕ) where
       ∙ ap (λ (z : List (ℕ × N)). z ++ x₂ ∷ []) (first ∙ ap (λ (v : N). l ++ (jump .0, v) ∷ []) ea)
       ∙ append-assoc l (x₁ ∷ []) (x₂ ∷ []))
       ∙ append-assoc l (x₁ ∷ x₂ ∷ []) (x₃ ∷ [])
-      ∙ ap (λ (z : List (ℕ × N)). l ++ z) (sym (noise-contributes A c n (k .few) r (k .below) p q w w′ (few-spins (λ s. noiseEntries m m′ s r) n (k .few) e ∙ ap₂ (λ (m m′ : ℕ). noiseEntries m m′ n r) em em′)))
+      ∙ ap (λ (z : List (ℕ × N)). l ++ z) (sym (noise-contributes A c n r (k .below) p q w w′ (few-spins (λ s. noiseEntries m m′ s r) n (k .few) e ∙ ap₂ (λ (m m′ : ℕ). noiseEntries m m′ n r) em em′)))
 
 -- in f64: a value is the coefficient c times the unit u
 module _ (t : Term) (n r : ℕ) where
-  pub operator-put : (kind : Kind) → Accepted n (2 ^ n) r (t .items ∷ []) → {m : ℕ} → m ≡ masksOf (t .items) → {x : ℕ × ℕ} → x ≡ entryOf (lettersOf kind) m (min n mostSpins) r
+  pub operator-put : (kind : Kind) → Accepted n (2 ^ n) r (t .items ∷ []) → {m : ℕ} → m ≡ masksOf (t .items) → {x : ℕ × ℕ} → x ≡ operatorEntry (lettersOf kind) m (min n mostSpins) r
       → {u a : Complex} → u ≡ unitOfI (x .1) → a ≡ productOf (t .coefficient) u
       → (l : List (ℕ × Complex)) {l′ : List (ℕ × Complex)} → l′ ≡ l ++ (x .0, a) ∷ [] → l′ ≡ l ++ operatorPart (lettersOf kind) n r t
   operator-put kind k em e eu ea = put-operator floats (t .coefficient) n r kind (t .items) k em e (ea ∙ ap (productOf (t .coefficient)) eu)
@@ -96,7 +96,7 @@ module _ (t : Term) (n r : ℕ) where
   commutator-values em ec k =
       ap₂ (λ (m : ℕ) (c : Complex). map (whole floats c) (commutatorEntries m (min n mostSpins) r)) em ec
       ∙ few-spins (λ s. map (whole floats (t .coefficient)) (commutatorEntries (masksOf (t .items)) s r)) n (k .few) refl
-      ∙ sym (commutator-terms floats (t .coefficient) n (k .few) r (k .below) (t .items) (accepted-first (t .items) [] k))
+      ∙ sym (commutator-terms floats (t .coefficient) n r (k .below) (t .items) (accepted-first (t .items) [] k))
 
   -- the arrays after them
   pub commutator-written : {m : ℕ} {c : Complex} → m ≡ masksOf (t .items) → c ≡ t .coefficient → Accepted n (2 ^ n * 2 ^ n) r (t .items ∷ []) → (at : ℕ) → at + 2 ≤ mostEntries
@@ -116,7 +116,7 @@ module _ (t : NoiseTerm) (n r : ℕ) where
       ap₂ (λ (m′ : ℕ) (c : Complex). jumpAndHalves floats c (noiseEntries m m′ (min n mostSpins) r)) em′ ec
       ∙ ap (λ (m : ℕ). jumpAndHalves floats (t .coefficient) (noiseEntries m (masksOf q) (min n mostSpins) r)) em
       ∙ few-spins (λ s. jumpAndHalves floats (t .coefficient) (noiseEntries (masksOf p) (masksOf q) s r)) n (k .few) refl
-      ∙ sym (noise-terms floats (t .coefficient) n (k .few) r (k .below) p q (accepted-first p (q ∷ []) k) (accepted-first q [] (accepted-rest p (q ∷ []) k)))
+      ∙ sym (noise-terms floats (t .coefficient) n r (k .below) p q (accepted-first p (q ∷ []) k) (accepted-first q [] (accepted-rest p (q ∷ []) k)))
 
   pub noise-written : {m m′ : ℕ} {c : Complex} → m ≡ masksOf (t .left) → m′ ≡ masksOf (t .right) → c ≡ t .coefficient → Accepted n (2 ^ n * 2 ^ n) r (sides t) → (at : ℕ) → at + 3 ≤ mostEntries
       → {cs cs′ : List ℕ} {xs xs′ ys ys′ : List Float} → Long cs xs ys → _≡_ {A = Arrays} (cs′, xs′, ys′) (written at (noiseValues m m′ c n r) (cs, xs, ys))

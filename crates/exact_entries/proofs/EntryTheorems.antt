@@ -23,7 +23,7 @@ use Rattle.open_system.specs.declared.PauliLindbladOpenSystem.{PauliLindbladOpe
 use Rattle.outside_sites.specs.Accepted.{Accepted}
 use Rattle.hamiltonians.specs.Reals.{hamiltonianTerms}
 use Rattle.term_sets.specs.Complexes as operator_rows
-use Rattle.exact_rows.specs.ExactRows.{gaussOf, exactContributions, exactCommutatorPart, exactEntriesOf}
+use Rattle.exact_rows.specs.ExactRows.{gaussOf, exactContributions, exactCommutatorPart, exactRowEntries}
 use Rattle.outside_sites.proofs.AcceptedLaws.{accepted-first, accepted-rest, accepted-left, accepted-right, all-both, hamiltonian-valid, noise-valid}
 use Rattle.open_rows.proofs.SystemTheorems.{FitsPair}
 use Rattle.exact_entries.specs.ExactEntries.{wholeHamiltonian, wholeNoise, systemEntry, ExactRowTheorem}
@@ -55,23 +55,23 @@ products-fit {n} (t ∷ l) a =
     (w .held, w .sites-below)
     (products-fit l (accepted-rest (t .items) (operator_rows.itemsOf (map reals.complexTerm l)) a))
 
-sides-fit : {n rows r : ℕ} (l : List NoiseTerm) → Accepted n rows r (pairs.itemsOf l)
+sides-fit : {n rows r : ℕ} (l : List NoiseTerm) → Accepted n rows r (pairs.sidesOf l)
     → All (λ (t : Key × G). FitsPair n (t .0)) (map (λ (t : NoiseTerm). ((t .left, t .right), gaussOf (t .coefficient))) l)
-unfolding pairs.itemsOf concatMap
+unfolding pairs.sidesOf concatMap
 sides-fit {n} [] a = all-nil (λ (t : Key × G). FitsPair n (t .0))
 sides-fit {n} (t ∷ l) a =
-    let left = accepted-first (t .left) (t .right ∷ pairs.itemsOf l) a in
-    let b = accepted-rest (t .left) (t .right ∷ pairs.itemsOf l) a in
-    let right = accepted-first (t .right) (pairs.itemsOf l) b in
+    let left = accepted-first (t .left) (t .right ∷ pairs.sidesOf l) a in
+    let b = accepted-rest (t .left) (t .right ∷ pairs.sidesOf l) a in
+    let right = accepted-first (t .right) (pairs.sidesOf l) b in
     all-cons (λ (t : Key × G). FitsPair n (t .0)) ((t .left, t .right), gaussOf (t .coefficient)) (map (λ (t : NoiseTerm). ((t .left, t .right), gaussOf (t .coefficient))) l)
     ((left .held, left .sites-below), (right .held, right .sites-below))
-    (sides-fit l (accepted-rest (t .right) (pairs.itemsOf l) b))
+    (sides-fit l (accepted-rest (t .right) (pairs.sidesOf l) b))
 
 module _ (s : PauliLindbladOpenSystem) (n r : ℕ) (p : Passed s n) (below : r < 2 ^ n * 2 ^ n) where
   taken : Accepted n (2 ^ n * 2 ^ n) r (products s)
   taken =
       record {
-        held = all-both (operator_rows.itemsOf (hamiltonianTerms (s .system))) (pairs.itemsOf (pairs.heldBy (s .noise .set))) (hamiltonian-valid (s .system) (p .hamiltonian)) (noise-valid (s .noise .set) (p .noise));
+        held = all-both (operator_rows.itemsOf (hamiltonianTerms (s .system))) (pairs.sidesOf (pairs.heldBy (s .noise .set))) (hamiltonian-valid (s .system) (p .hamiltonian)) (noise-valid (s .noise .set) (p .noise));
         few = p .few;
         below = below;
         inside = p .inside;
@@ -79,18 +79,18 @@ module _ (s : PauliLindbladOpenSystem) (n r : ℕ) (p : Passed s n) (below : r <
 
   hamiltonian-fits : All (λ t. Fits n (t .0)) (wholeHamiltonian (s .system))
   unfolding wholeHamiltonian
-  hamiltonian-fits = products-fit (reals.heldBy (s .system)) (accepted-left (operator_rows.itemsOf (hamiltonianTerms (s .system))) (pairs.itemsOf (pairs.heldBy (s .noise .set))) taken)
+  hamiltonian-fits = products-fit (reals.heldBy (s .system)) (accepted-left (operator_rows.itemsOf (hamiltonianTerms (s .system))) (pairs.sidesOf (pairs.heldBy (s .noise .set))) taken)
 
   noise-fits : All (λ t. FitsPair n (t .0)) (wholeNoise (s .noise .set))
   unfolding wholeNoise
-  noise-fits = sides-fit (pairs.heldBy (s .noise .set)) (accepted-right (operator_rows.itemsOf (hamiltonianTerms (s .system))) (pairs.itemsOf (pairs.heldBy (s .noise .set))) taken)
+  noise-fits = sides-fit (pairs.heldBy (s .noise .set)) (accepted-right (operator_rows.itemsOf (hamiltonianTerms (s .system))) (pairs.sidesOf (pairs.heldBy (s .noise .set))) taken)
 
   -- the row's values are sums of contributions
-  value-is : (c : ℕ) → valueAt c (exactEntriesOf s n r) ≡ sumAt c (wholeContributions n r (wholeHamiltonian (s .system)) (wholeNoise (s .noise .set)))
-  unfolding exactEntriesOf
+  value-is : (c : ℕ) → valueAt c (exactRowEntries s n r) ≡ sumAt c (wholeContributions n r (wholeHamiltonian (s .system)) (wholeNoise (s .noise .set)))
+  unfolding exactRowEntries
   value-is c = rowIn-value false c (exactContributions n r (hamiltonianTerms (s .system)) (pairs.heldBy (s .noise .set))) ∙ ap (sumAt c) (contributions n r (s .system) (s .noise .set))
 
-  entry-is : (a b : ℕ) → a < 2 ^ n → b < 2 ^ n → valueAt (pairColumn n a b) (exactEntriesOf s n r) ≡ systemEntry s n (r / 2 ^ n) (r % 2 ^ n) a b
+  entry-is : (a b : ℕ) → a < 2 ^ n → b < 2 ^ n → valueAt (pairColumn n a b) (exactRowEntries s n r) ≡ systemEntry s n (r / 2 ^ n) (r % 2 ^ n) a b
   unfolding systemEntry
   entry-is a b ha hb = value-is (pairColumn n a b) ∙ row-sum n (wholeHamiltonian (s .system)) (wholeNoise (s .noise .set)) hamiltonian-fits noise-fits r a b below ha hb
 

@@ -18,8 +18,8 @@ use Rattle.noise_sets.specs.Pairs as pairs
 use Rattle.open_system.specs.declared.PauliLindbladOpenSystem.{PauliLindbladOpenSystem}
 use Rattle.hamiltonians.specs.Reals.{hamiltonianTerms}
 use Rattle.open_system.specs.Grouping.{validSystem}
-use Rattle.outside_sites.specs.SystemItems.{itemsOf}
-use Rattle.exact_rows.specs.ExactRows.{wholeTerms, unlessNotWhole, exactRowOfTerms, exactRow, exactEntriesOf}
+use Rattle.outside_sites.specs.SystemItems.{systemItems}
+use Rattle.exact_rows.specs.ExactRows.{wholeTerms, unlessNotWhole, exactRowOfTerms, exactRow, exactRowEntries}
 
 -- ---- tests before an answer that gives something
 
@@ -60,7 +60,7 @@ both-valid false b e = absurd (clash (sym e))
 
 -- the products of a system, Hamiltonian before noise
 abbrev pub products : PauliLindbladOpenSystem → List Items
-products s = itemsOf (hamiltonianTerms (s .system)) (pairs.heldBy (s .noise .set))
+products s = systemItems (hamiltonianTerms (s .system)) (pairs.heldBy (s .noise .set))
 
 -- what 0, 7, 8 and 11 ask, which is the same for every row
 pub record Passed (s : PauliLindbladOpenSystem) (n : ℕ) : Type 0 where
@@ -71,20 +71,20 @@ pub record Passed (s : PauliLindbladOpenSystem) (n : ℕ) : Type 0 where
   pub whole : wholeTerms (hamiltonianTerms (s .system)) (pairs.heldBy (s .noise .set)) ≡ true
 
 -- a row that is given: they let it pass, it is below d·d, and it is the row of the contributions
-pub passed : (s : PauliLindbladOpenSystem) (n r : ℕ) (row : List (ℕ × G)) → exactRow s n r ≡ gives row → Passed s n × ((r < 2 ^ n * 2 ^ n) × (exactEntriesOf s n r ≡ row))
-unfolding exactRow exactRowOfTerms checkedRow exactEntriesOf validSystem
+pub passed : (s : PauliLindbladOpenSystem) (n r : ℕ) (row : List (ℕ × G)) → exactRow s n r ≡ gives row → Passed s n × ((r < 2 ^ n * 2 ^ n) × (exactRowEntries s n r ≡ row))
+unfolding exactRow exactRowOfTerms checkedRow exactRowEntries validSystem
 passed s n r row e =
     let a = past-not (validSystem s) 0 [] (exactRowOfTerms n r (hamiltonianTerms (s .system)) (pairs.heldBy (s .noise .set))) row e in
     let v = both-valid (reals.validSet (s .system)) (pairs.validSet (s .noise .set)) (a .0) in
-    let w = past-whole (wholeTerms (hamiltonianTerms (s .system)) (pairs.heldBy (s .noise .set))) (checkedRow n (2 ^ n * 2 ^ n) r (products s) (exactEntriesOf s n r)) row (a .1) in
-    let m = past-test (ltb mostSpins n) 7 [] (cond (leb (2 ^ n * 2 ^ n) r) (refuses 9 []) (unlessOutside (outside n (products s)) (exactEntriesOf s n r))) row (w .1) in
-    let b = past-test (leb (2 ^ n * 2 ^ n) r) 9 [] (unlessOutside (outside n (products s)) (exactEntriesOf s n r)) row (m .1) in
-    let o = past-outside (outside n (products s)) (exactEntriesOf s n r) row (b .1) in (
+    let w = past-whole (wholeTerms (hamiltonianTerms (s .system)) (pairs.heldBy (s .noise .set))) (checkedRow n (2 ^ n * 2 ^ n) r (products s) (exactRowEntries s n r)) row (a .1) in
+    let m = past-test (ltb mostSpins n) 7 [] (cond (leb (2 ^ n * 2 ^ n) r) (refuses 9 []) (unlessOutside (outside n (products s)) (exactRowEntries s n r))) row (w .1) in
+    let b = past-test (leb (2 ^ n * 2 ^ n) r) 9 [] (unlessOutside (outside n (products s)) (exactRowEntries s n r)) row (m .1) in
+    let o = past-outside (outside n (products s)) (exactRowEntries s n r) row (b .1) in (
       record { hamiltonian = v .0; noise = v .1; few = ltb-false mostSpins n (m .0); inside = o .0; whole = w .0 },
       (leb-false (2 ^ n * 2 ^ n) r (b .0), o .1),
     )
 
 -- and back: no number refuses
-pub gives-row : (s : PauliLindbladOpenSystem) (n r : ℕ) → Passed s n → r < 2 ^ n * 2 ^ n → exactRow s n r ≡ gives (exactEntriesOf s n r)
-unfolding exactRow validSystem exactRowOfTerms exactEntriesOf checkedRow unlessOutside unlessNotWhole
+pub gives-row : (s : PauliLindbladOpenSystem) (n r : ℕ) → Passed s n → r < 2 ^ n * 2 ^ n → exactRow s n r ≡ gives (exactRowEntries s n r)
+unfolding exactRow validSystem exactRowOfTerms exactRowEntries checkedRow unlessOutside unlessNotWhole
 gives-row s n r p below = rw (p .hamiltonian, p .noise, le-ltb mostSpins n (p .few), lt-leb (2 ^ n * 2 ^ n) r below, p .inside, p .whole) refl

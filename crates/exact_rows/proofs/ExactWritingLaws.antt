@@ -33,7 +33,7 @@ use Rattle.term_sets.specs.declared.Term.{Term}
 use Rattle.noise_sets.specs.declared.NoiseTerm.{NoiseTerm}
 use Rattle.outside_sites.specs.Accepted.{Accepted}
 use Rattle.noise_sets.specs.Pairs.{sides}
-use Rattle.outside_sites.specs.SystemItems.{itemsOf}
+use Rattle.outside_sites.specs.SystemItems.{systemItems}
 use Rattle.exact_rows.specs.ExactRows.{gaussOf, largestCoefficient, exactCommutatorPart, exactNoisePart, exactContributions, wholeTerms, unlessNotWhole, exactRowOfTerms}
 use Rattle.exact_rows.proofs.CoefficientLaws.{read-small, commutator-small, noise-small}
 use Rattle.contributions.proofs.WritingLaws.{put-commutator, put-noise}
@@ -105,14 +105,14 @@ module _ (n r : ℕ) where
 
   -- ---- 11 after 7, 9 and 8
 
-  checked : (h : List Term) (w : List NoiseTerm) → Accepted n (2 ^ n * 2 ^ n) r (itemsOf h w)
-      → checkedRow n (2 ^ n * 2 ^ n) r (itemsOf h w) (rowIn halves false (exactContributions n r h w)) ≡ gives (rowIn halves false (exactContributions n r h w))
+  checked : (h : List Term) (w : List NoiseTerm) → Accepted n (2 ^ n * 2 ^ n) r (systemItems h w)
+      → checkedRow n (2 ^ n * 2 ^ n) r (systemItems h w) (rowIn halves false (exactContributions n r h w)) ≡ gives (rowIn halves false (exactContributions n r h w))
   unfolding checkedRow unlessOutside
   checked h w k = rw (le-ltb mostSpins n (k .few), lt-leb (2 ^ n * 2 ^ n) r (k .below), k .inside) refl
 
   module _ (h : List Term) (w : List NoiseTerm) {a : List ℕ} {b c : List ℤ} where
     -- what is refused before it stays so
-    pub before-whole : {k : ℕ} {s : List ℕ} → checkedRow n (2 ^ n * 2 ^ n) r (itemsOf h w) (rowIn halves false (exactContributions n r h w)) ≡ refuses k s
+    pub before-whole : {k : ℕ} {s : List ℕ} → checkedRow n (2 ^ n * 2 ^ n) r (systemItems h w) (rowIn halves false (exactContributions n r h w)) ≡ refuses k s
         → ExactCall (exactRowOfTerms n r h w) (refuses k s) a a b b c c
     unfolding exactRowOfTerms unlessNotWhole
     before-whole {k} {s} e = rw e (call-refused k s a b c)
@@ -125,11 +125,11 @@ module _ (n r : ℕ) where
       pub exact-range : size ≤ r → ExactCall (exactRowOfTerms n r h w) (refuses 9 []) a a b b c c
       exact-range e = before-whole (unfold checkedRow in rw (le-ltb mostSpins n few, le-leb (2 ^ n * 2 ^ n) r (omega arith)) refl)
 
-      pub exact-outside : r < size → {site : ℕ} → site ∷ [] ≡ outside n (itemsOf h w) → ExactCall (exactRowOfTerms n r h w) (refuses 8 (site ∷ [])) a a b b c c
+      pub exact-outside : r < size → {site : ℕ} → site ∷ [] ≡ outside n (systemItems h w) → ExactCall (exactRowOfTerms n r h w) (refuses 8 (site ∷ [])) a a b b c c
       exact-outside e o = before-whole (unfold checkedRow unlessOutside in rw (le-ltb mostSpins n few, lt-leb (2 ^ n * 2 ^ n) r (omega arith), ← o) refl)
 
     -- an accepted call
-    module _ (k : Accepted n (2 ^ n * 2 ^ n) r (itemsOf h w)) where
+    module _ (k : Accepted n (2 ^ n * 2 ^ n) r (systemItems h w)) where
       pub not-whole : wholeTerms h w ≡ false → ExactCall (exactRowOfTerms n r h w) (refuses 11 []) a a b b c c
       unfolding exactRowOfTerms unlessNotWhole
       not-whole e = rw (checked h w k, e) (call-refused 11 [] a b c)

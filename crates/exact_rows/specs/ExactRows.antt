@@ -19,7 +19,7 @@ use Rattle.noise_sets.specs.Pairs as pairs
 use Rattle.noise_sets.specs.declared.NoiseTerm.{NoiseTerm}
 use Rattle.hamiltonians.specs.Reals.{hamiltonianTerms}
 use Rattle.open_system.specs.Grouping.{validSystem}
-use Rattle.outside_sites.specs.SystemItems.{itemsOf}
+use Rattle.outside_sites.specs.SystemItems.{systemItems}
 use Rattle.open_system.specs.declared.PauliLindbladOpenSystem.{PauliLindbladOpenSystem}
 
 -- a coefficient as a whole number
@@ -52,11 +52,11 @@ unlessNotWhole whole (refuses k s) = refuses k s
 
 -- row r of the terms, after number 0
 unfoldable pub exactRowOfTerms : ℕ → ℕ → List Term → List NoiseTerm → Said (List (ℕ × G))
-exactRowOfTerms n r h w = unlessNotWhole (wholeTerms h w) (checkedRow n (2 ^ n * 2 ^ n) r (itemsOf h w) (rowIn halves false (exactContributions n r h w)))
+exactRowOfTerms n r h w = unlessNotWhole (wholeTerms h w) (checkedRow n (2 ^ n * 2 ^ n) r (systemItems h w) (rowIn halves false (exactContributions n r h w)))
 
 unfoldable pub exactRow : PauliLindbladOpenSystem → ℕ → ℕ → Said (List (ℕ × G))
 exactRow s n r = cond (not (validSystem s)) (refuses 0 []) (exactRowOfTerms n r (hamiltonianTerms (s .system)) (pairs.heldBy (s .noise .set)))
 
 -- the columns of row r with their two parts, where no number refuses
-unfoldable pub exactEntriesOf : PauliLindbladOpenSystem → ℕ → ℕ → List (ℕ × G)
-exactEntriesOf s n r = rowIn halves false (exactContributions n r (hamiltonianTerms (s .system)) (pairs.heldBy (s .noise .set)))
+unfoldable pub exactRowEntries : PauliLindbladOpenSystem → ℕ → ℕ → List (ℕ × G)
+exactRowEntries s n r = rowIn halves false (exactContributions n r (hamiltonianTerms (s .system)) (pairs.heldBy (s .noise .set)))

@@ -10,7 +10,7 @@ ghost use Rattle.exact_sums.specs.ExactSums.{ExactCall};
 ghost use Rattle.term_sets.specs.Complexes as complexes;
 ghost use Rattle.noise_sets.specs.Pairs as pairs;
 ghost use Rattle.outside_sites.specs.Accepted.{Accepted};
-ghost use Rattle.outside_sites.specs.SystemItems.{itemsOf};
+ghost use Rattle.outside_sites.specs.SystemItems.{systemItems};
 ghost use Rattle.exact_rows.specs.ExactRows.{exactContributions, exactRowOfTerms, exactRow};
 ghost use Rattle.items.specs.Record.{valid};
 ghost use Rattle.terms.specs.Keyed.{each};
@@ -44,7 +44,7 @@ fn delivered(
     out_re: &mut [i64],
     out_im: &mut [i64],
 ) -> Delivery
-    requires { ⌜ Accepted spins (2 ^ spins * 2 ^ spins) row (itemsOf (complexes.heldBy h) (pairs.heldBy n)) ⌝ }
+    requires { ⌜ Accepted spins (2 ^ spins * 2 ^ spins) row (systemItems (complexes.heldBy h) (pairs.heldBy n)) ⌝ }
     ensures { λ r. ⌜ ExactCall (gives (rowIn halves false (exactContributions spins row (complexes.heldBy h) (pairs.heldBy n)))) (saidDelivery r) (now («out_columns» .entry)) (now («out_columns» .exit)) (now («out_re» .entry)) (now («out_re» .exit)) (now («out_im» .entry)) (now («out_im» .exit)) ⌝ }
 {
     let mut columns = [0u64; 320];
@@ -65,7 +65,7 @@ fn whole_row(
     out_re: &mut [i64],
     out_im: &mut [i64],
 ) -> Delivery
-    requires { ⌜ Accepted spins (2 ^ spins * 2 ^ spins) row (itemsOf (complexes.heldBy h) (pairs.heldBy n)) ⌝ }
+    requires { ⌜ Accepted spins (2 ^ spins * 2 ^ spins) row (systemItems (complexes.heldBy h) (pairs.heldBy n)) ⌝ }
     ensures { λ r. ⌜ ExactCall (exactRowOfTerms spins row (complexes.heldBy h) (pairs.heldBy n)) (saidDelivery r) (now («out_columns» .entry)) (now («out_columns» .exit)) (now («out_re» .entry)) (now («out_re» .exit)) (now («out_im» .entry)) (now («out_im» .exit)) ⌝ }
 {
     if !whole_terms(h) {
@@ -87,7 +87,7 @@ fn row_of(
     out_re: &mut [i64],
     out_im: &mut [i64],
 ) -> Delivery
-    requires { ⌜ each (λ p ps. valid p) (itemsOf (complexes.heldBy h) (pairs.heldBy n)) ≡ true ⌝ }
+    requires { ⌜ each (λ p ps. valid p) (systemItems (complexes.heldBy h) (pairs.heldBy n)) ≡ true ⌝ }
     ensures { λ r. ⌜ ExactCall (exactRowOfTerms spins row (complexes.heldBy h) (pairs.heldBy n)) (saidDelivery r) (now («out_columns» .entry)) (now («out_columns» .exit)) (now («out_re» .entry)) (now («out_re» .exit)) (now («out_im» .entry)) (now («out_im» .exit)) ⌝ }
 {
     if MOST_SPINS < spins {

@@ -131,7 +131,7 @@ pub(crate) fn write_noise(
     im: &mut [i64; 320],
 ) -> usize
     requires { ⌜ (from ≤ 128) × (spins ≤ mostSpins) ⌝ }
-    ensures { λ r. ⌜ (r ≤ 320) × (Long (now (columns .entry)) (now (re .entry)) (now (im .entry)) → Accepted spins (2 ^ spins * 2 ^ spins) row (pairs.itemsOf (pairs.heldBy s)) → exactEntries (now (columns .exit)) (now (re .exit)) (now (im .exit)) r ≡ exactEntries (now (columns .entry)) (now (re .entry)) (now (im .entry)) from ++ concatMap (exactNoisePart spins row) (pairs.heldBy s)) ⌝ }
+    ensures { λ r. ⌜ (r ≤ 320) × (Long (now (columns .entry)) (now (re .entry)) (now (im .entry)) → Accepted spins (2 ^ spins * 2 ^ spins) row (pairs.sidesOf (pairs.heldBy s)) → exactEntries (now (columns .exit)) (now (re .exit)) (now (im .exit)) r ≡ exactEntries (now (columns .entry)) (now (re .entry)) (now (im .entry)) from ++ concatMap (exactNoisePart spins row) (pairs.heldBy s)) ⌝ }
 {
     let n = held_count(s.count);
     let mut i = 0;

@@ -12,16 +12,13 @@ use mir.Syntax.{w64}
 use mir.Val.{toZ, ofZ, SFits}
 use mir.ValLaws.{toZ-ofZ}
 use borrow.Author.Tests.{leb-true, le-leb, lt-leb, ltb-true, ltb-false, eq-eqb, ne-eqb}
+use Rattle.complex.proofs.WholeLaws.{mag-abs}
 use Rattle.letters.specs.Gauss.{G, 𝟘, eqℤ, eqG}
 use Rattle.letters.proofs.TestLaws.{and-true, and-left, and-right}
 use Rattle.master_equation.specs.Numbers.{halves}
 use Rattle.exact_sums.specs.ExactSums.{whole, within}
 
 -- ---- sizes
-
-mag-abs : (z : ℤ) → mag z ≤ natAbs z
-mag-abs (pos n) = le-refl n
-mag-abs (negsuc n) = omega arith
 
 -- a number below 2^63 in size fits
 pub fits-abs : (z : ℤ) → natAbs z < 2 ^ 63 → SFits w64 z

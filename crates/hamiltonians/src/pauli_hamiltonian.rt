@@ -2,8 +2,7 @@
 ghost use mathlib.Core.Path.{_≡_};
 ghost use mathlib.Core.Bool.{cond};
 ghost use mathlib.Core.List.{map, []};
-ghost use Prim.Native.Nat.{_+_, _≤_, _<_};
-ghost use lib.ListN.{drop};
+ghost use Prim.Native.Nat.{_≤_, _<_};
 ghost use Rattle.hamiltonians.specs.Reals.{blank, realTerms, heldBy, filled, complexOf, complexTerm, validSet};
 ghost use Rattle.terms.specs.Keyed.{firstAt, omitted, held};
 ghost use Rattle.terms.specs.Setting.{mostTerms, keyed, write, hasRoom, coefficientAt};
@@ -54,13 +53,13 @@ fn blank_term() -> RealTerm
     }
 }
 
-// The place of the first term with a key, from a place on; the count where there is none.
-fn find_from(s: PauliHamiltonian, from: usize, key: Items) -> usize
-    requires { ⌜ (s .count ≤ mostTerms) × (from ≤ s .count) ⌝ }
-    ensures { λ r. ⌜ r ≡ from + firstAt (keyed realTerms key) (drop from (heldBy s)) ⌝ }
+// The place of the first term with a key; the count where there is none.
+fn find(s: PauliHamiltonian, key: Items) -> usize
+    requires { ⌜ s .count ≤ mostTerms ⌝ }
+    ensures { λ r. ⌜ r ≡ firstAt (keyed realTerms key) (heldBy s) ⌝ }
 {
     let n = s.count;
-    let mut i = from;
+    let mut i: usize = 0;
     while i < n {
         let t = s.terms[i];
         let p = t.items;
@@ -103,7 +102,7 @@ fn put(s: PauliHamiltonian, key: Items, value: f64) -> Written
     ensures set { λ r. ⌜ r .set ≡ cond (hasRoom realTerms key value (heldBy s)) (filled (write realTerms key value (heldBy s))) s ⌝ }
 {
     let n = s.count;
-    let i = find_from(s, 0, key);
+    let i = find(s, key);
     if value == 0.0 {
         if i < n {
             return Written {
@@ -140,7 +139,7 @@ fn coefficient_at(s: PauliHamiltonian, key: Items) -> f64
     requires { ⌜ s .count ≤ mostTerms ⌝ }
     ensures { λ r. ⌜ r ≡ coefficientAt realTerms key (heldBy s) ⌝ }
 {
-    let i = find_from(s, 0, key);
+    let i = find(s, key);
     if i < s.count {
         let t = s.terms[i];
         return t.coefficient;
@@ -153,7 +152,7 @@ fn was(s: PauliHamiltonian, key: Items) -> SetAnswer
     requires { ⌜ s .count ≤ mostTerms ⌝ }
     ensures { λ r. ⌜ saidSet r ≡ gives (map (λ t. complexOf (t .coefficient)) (held (keyed realTerms key) (heldBy s))) ⌝ }
 {
-    let i = find_from(s, 0, key);
+    let i = find(s, key);
     if i < s.count {
         let t = s.terms[i];
         return SetAnswer::Replaced(t.coefficient, 0.0);

@@ -56,8 +56,8 @@ fn refused() -> RealMasks
     }
 }
 
-// The held terms' masks and coefficients, where every held term is good. Good terms with one number have one key, so a number
-// that repeats is refused.
+// The held terms' masks and coefficients, where every held term is good. Good terms with the same masks have one key, so masks
+// that repeat are refused.
 fn gathered(s: PauliHamiltonian) -> RealMasks
     requires { ⌜ s .count ≤ mostTerms ⌝ }
     ensures { λ r. ⌜ r ≡ cond (each goodTerm (heldBy s)) (heldMasks s) noMasks ⌝ }

@@ -5,8 +5,8 @@ use mathlib.Core.Path.{_≡_, refl, sym, ap, _∙_, subst}
 use mathlib.Core.List.{List, [], _∷_, _++_, map}
 use mathlib.Core.Bool.{true}
 use mathlib.Core.Logic.{⊎-elim}
-use Prim.Native.Nat.{ℕ, zero, suc, _+_, _-_, _≤_, _<_}
-use native.Mathlib.Nat.{not-suc-le-zero}
+use Prim.Native.Nat.{ℕ, zero, suc, _+_, _-_, _≤_, _<_, max}
+use native.Mathlib.Nat.{not-suc-le-zero, le-max-left, le-max-right}
 use native.Mathlib.Decide.{ℕ-discrete, decLt}
 use native.Mathlib.Omega.{arith}
 use lib.ListN.{length, take, length-map}
@@ -14,10 +14,10 @@ use lib.Seq.{take-suc, length-take-le, getD-take, ext-getD}
 use borrow.Author.Tests.{eq-eqb, ne-eqb}
 use Rattle.letters.proofs.TestLaws.{bool-ext, every-intro}
 use Rattle.letters.specs.Answers.{highestLetter}
-use Rattle.items.specs.Lists.{at, support, padded, larger}
+use Rattle.items.specs.Lists.{at, support, padded}
 use Rattle.items.specs.Record.{capacity, highestSite, placeValid, valid, lookup, letterAt, reach, recordOf, sameItems, emptyProduct}
 use Rattle.items.specs.declared.Items.{Items}
-use Rattle.items.proofs.ListLaws.{below-cases, support-in, support-ext, map-support-ext, support-above, length-support, supported, support-place, length-padded, padded-in, padded-out, padded-take, getD-map, larger-left, larger-right}
+use Rattle.items.proofs.ListLaws.{below-cases, support-in, support-ext, map-support-ext, support-above, length-support, supported, support-place, length-padded, padded-in, padded-out, padded-take, getD-map}
 use Rattle.items.proofs.RecordLaws.{place-in, place-out, all-valid, valid-shape, valid-at, valid-past, ascending, lookup-absent, lookup-here, lookup-before, lookup-ext, letter-here, letter-beyond, site-below-reach}
 use Rattle.items.proofs.SameLaws.{same-self, same-equal}
 
@@ -112,10 +112,10 @@ canonical-span p v span l = record-span (letterAt p) (reach p) span l (λ s a b.
 
 pub extensional : (p q : Items) → valid p ≡ true → valid q ≡ true → ((s : ℕ) → letterAt p s ≡ letterAt q s) → p ≡ q
 extensional p q v w h =
-    let span = larger (reach p) (reach q) in
-    sym (canonical-span p v span (larger-left (reach p) (reach q)))
+    let span = max (reach p) (reach q) in
+    sym (canonical-span p v span (le-max-left (reach p) (reach q)))
     ∙ record-ext (letterAt p) (letterAt q) span (λ s l. h s)
-    ∙ canonical-span q w span (larger-right (reach p) (reach q))
+    ∙ canonical-span q w span (le-max-right (reach p) (reach q))
 
 -- ---- the record of a lettering is valid
 

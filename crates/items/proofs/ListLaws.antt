@@ -1,4 +1,4 @@
--- Laws of `support` and of `padded`: their lengths, their elements, and one step more of each; and of `larger`.
+-- Laws of `support` and of `padded`: their lengths, their elements, and one step more of each.
 -- Assumes nothing.
 use mathlib.Core.Path.{_≡_, refl, sym, ap, _∙_, subst}
 use mathlib.Core.List.{List, [], _∷_, _++_, map, append-nil, map-append}
@@ -13,7 +13,7 @@ use lib.Dec.{ltb}
 use lib.ListN.{length, getD, set, take, drop, replicate, length-append, length-replicate, length-drop, getD-replicate, take-append-drop, List·getD-append}
 use lib.Seq.{set-append-seam, append-snoc, getD-at, getD-drop, getD-append-add, length-take-le, ext-getD}
 use borrow.Author.Tests.{lt-ltb, le-ltb}
-use Rattle.items.specs.Lists.{at, support, padded, larger}
+use Rattle.items.specs.Lists.{at, support, padded}
 
 -- a number below suc n is n or below n
 pub below-cases : (k n : ℕ) → k < suc n → (k ≡ n) ⊎ (k < n)
@@ -69,16 +69,6 @@ support-above f t (suc m) l h =
     (λ q.
     let z : ltb 0 (f m) ≡ false = le-ltb 0 (f m) (omega (arith, h m (omega arith) (omega arith))) in
     rw z (append-nil (support f m) ∙ support-above f t m (omega arith) (λ s a b. h s a (omega arith))))
-    (eq-or-lt-of-le l)
-
--- a longer span has no shorter support
-pub support-mono : (f : ℕ → ℕ) (a b : ℕ) → a ≤ b → length (support f a) ≤ length (support f b)
-unfolding support
-support-mono f a zero l = let e : a ≡ 0 = omega arith in rw e (omega arith)
-support-mono f a (suc b) l =
-    ⊎-elim
-    (λ q. rw q (omega arith))
-    (λ q. rw length-append (omega (arith, support-mono f a b (omega arith))))
     (eq-or-lt-of-le l)
 
 -- what each element of a support has
@@ -180,14 +170,3 @@ pub getD-map : (f : ℕ → ℕ) (l : List ℕ) (i : ℕ) → i < length l → g
 getD-map f [] i h = absurd (not-suc-le-zero h)
 getD-map f (x ∷ l) zero h = refl
 getD-map f (x ∷ l) (suc i) h = getD-map f l i (le-of-suc-le-suc h)
-
--- ---- larger
-
-pub larger-left : (a b : ℕ) → a ≤ larger a b
-larger-left a b = elim (decLt a b) [ yes h ↦ rw (lt-ltb a b h) (omega arith) | no h ↦ rw (le-ltb a b (omega arith)) (omega arith) ]
-
-pub larger-right : (a b : ℕ) → b ≤ larger a b
-larger-right a b = elim (decLt a b) [ yes h ↦ rw (lt-ltb a b h) (omega arith) | no h ↦ rw (le-ltb a b (omega arith)) (omega arith) ]
-
-pub larger-most : (a b m : ℕ) → a ≤ m → b ≤ m → larger a b ≤ m
-larger-most a b m p q = elim (decLt a b) [ yes h ↦ rw (lt-ltb a b h) q | no h ↦ rw (le-ltb a b (omega arith)) p ]

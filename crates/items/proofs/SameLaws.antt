@@ -1,5 +1,5 @@
--- Laws of `sameItems` and of `sameList`: each record is the same as itself, records that are the same are equal, the order of the
--- two does not matter, one place of a comparison, and what is left to compare.
+-- Laws of `sameItems` and of `sameList`: each record is the same as itself, records that are the same are equal, and so are pairs of
+-- them; one place of a comparison, and what is left to compare.
 -- Assumes nothing.
 use mathlib.Core.Path.{_≡_, refl, sym, _∙_}
 use mathlib.Core.List.{List, [], _∷_}
@@ -11,9 +11,9 @@ use lib.Dec.{eqb}
 use lib.ListN.{length, drop, drop-of-length-le}
 use lib.Seq.{drop-cons}
 use borrow.Author.Tests.{eqb-true, eq-eqb, ne-eqb}
-use Rattle.letters.proofs.TestLaws.{and-true, and-left, and-right, and-false, eqb-sym}
+use Rattle.letters.proofs.TestLaws.{and-true, and-left, and-right, and-false}
 use Rattle.items.specs.Lists.{at, sameList}
-use Rattle.items.specs.Record.{capacity, sameItems}
+use Rattle.items.specs.Record.{capacity, sameItems, sameKey}
 use Rattle.items.specs.declared.Items.{Items}
 
 -- ---- two lists
@@ -34,14 +34,6 @@ same-list-equal (x ∷ xs) (y ∷ ys) h =
     let first : x ≡ y = eqb-true x y (and-left (eqb x y) (sameList xs ys) h) in
     let others : xs ≡ ys = same-list-equal xs ys (and-right (eqb x y) (sameList xs ys) h) in
     cc
-
--- the order of the two lists does not matter
-pub same-list-sym : (l m : List ℕ) → sameList l m ≡ sameList m l
-unfolding sameList
-same-list-sym [] [] = refl
-same-list-sym [] (y ∷ ys) = refl
-same-list-sym (x ∷ xs) [] = refl
-same-list-sym (x ∷ xs) (y ∷ ys) = rw (eqb-sym x y, same-list-sym xs ys)
 
 -- one place of a comparison: its two elements, and what follows them
 pub same-list-step : (l m : List ℕ) (i : ℕ) → i < length l → i < length m → sameList (drop i l) (drop i m) ≡ (eqb (at l i) (at m i) && sameList (drop (i + 1) l) (drop (i + 1) m))
@@ -72,6 +64,18 @@ same-equal p q h =
     let site : p .sites ≡ q .sites = same-list-equal (p .sites) (q .sites) (and-left sites letters arrays) in
     let letter : p .letters ≡ q .letters = same-list-equal (p .letters) (q .letters) (and-right sites letters arrays) in
     λ i. record { count = count i; sites = site i; letters = letter i }
+
+-- and so are pairs of them
+pub same-key-self : (k : Items × Items) → sameKey k k ≡ true
+same-key-self k = and-true (same-self (k .0)) (same-self (k .1))
+
+pub same-key-equal : (k m : Items × Items) → sameKey k m ≡ true → k ≡ m
+same-key-equal k m e =
+    let left = sameItems (k .0) (m .0) in
+    let right = sameItems (k .1) (m .1) in
+    let p = same-equal (k .0) (m .0) (and-left left right e) in
+    let q = same-equal (k .1) (m .1) (and-right left right e) in
+    λ j. (p j, q j)
 
 -- ---- a loop that compares place by place
 

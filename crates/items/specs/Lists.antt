@@ -18,13 +18,6 @@ support f (suc n) = support f n ++ cond (ltb 0 (f n)) (n ∷ []) []
 unfoldable pub padded : ℕ → List ℕ → List ℕ
 padded n l = l ++ replicate (n - length l) 0
 
--- the larger and the smaller of two numbers
-abbrev pub larger : ℕ → ℕ → ℕ
-larger a b = cond (ltb a b) b a
-
-abbrev pub smaller : ℕ → ℕ → ℕ
-smaller a b = cond (ltb a b) a b
-
 -- two lists have the same elements
 unfoldable pub sameList : List ℕ → List ℕ → Bool
 sameList [] [] = true

@@ -2,12 +2,12 @@
 -- Document 01, `Forms that the Rust can't keep` and number 0.
 use mathlib.Core.List.{List, map}
 use mathlib.Core.Bool.{Bool, true, _&&_, cond}
-use Prim.Native.Nat.{ℕ, zero, suc, _-_}
+use Prim.Native.Nat.{ℕ, zero, suc, _-_, max}
 use lib.Dec.{ltb, leb, eqb}
 use lib.ListN.{length}
 use Rattle.letters.specs.Tests.{every}
 use Rattle.letters.specs.Answers.{highestLetter}
-use Rattle.items.specs.Lists.{at, support, padded, larger, sameList}
+use Rattle.items.specs.Lists.{at, support, padded, sameList}
 use Rattle.items.specs.declared.Items.{Items}
 
 -- the sites that a product can occupy at once, and the highest site
@@ -47,7 +47,7 @@ reach p = cond (eqb (p .count) 0) 0 (suc (at (p .sites) (p .count - 1)))
 
 -- one more than the highest site that either occupies
 abbrev pub reachOf : Items → Items → ℕ
-reachOf p q = larger (reach p) (reach q)
+reachOf p q = max (reach p) (reach q)
 
 -- the one valid record with the letters of f on the sites below span
 unfoldable pub recordOf : (ℕ → ℕ) → ℕ → Items
@@ -61,6 +61,10 @@ update f s a t = cond (eqb t s) a (f t)
 -- two records are the same
 unfoldable pub sameItems : Items → Items → Bool
 sameItems p q = eqb (p .count) (q .count) && (sameList (p .sites) (q .sites) && sameList (p .letters) (q .letters))
+
+-- two pairs of them, the keys of noise
+abbrev pub sameKey : Items × Items → Items × Items → Bool
+sameKey x y = sameItems (x .0) (y .0) && sameItems (x .1) (y .1)
 
 -- ---- the answers
 

@@ -181,7 +181,7 @@ pub fn is_empty(p: Items) -> bool
 }
 
 // How many places a record with such a count has letters on: at most the capacity.
-pub(crate) fn lettered(count: usize) -> usize
+pub(crate) fn held_count(count: usize) -> usize
     ensures { λ r. ⌜ r ≡ min count capacity ⌝ }
 {
     if count < CAPACITY { count } else { CAPACITY }

@@ -4,7 +4,7 @@ ghost use Prim.Native.Nat.{_*_, _%_, _^_};
 ghost use Rattle.items.specs.Masks.{letterBits, masksOf};
 use crate::Items;
 use crate::Site;
-use crate::lettered;
+use crate::held_count;
 
 // The bits of a letter at its site: X turns its bit over, Z gives it a sign, Y does both.
 pub(crate) fn bits_at(site: Site, letter: u8) -> u64
@@ -22,7 +22,7 @@ pub const MASK_SIZE: u64 = 4294967296;
 pub fn masks(p: Items) -> u64
     ensures { λ r. ⌜ r ≡ masksOf p ⌝ }
 {
-    let count = lettered(p.count);
+    let count = held_count(p.count);
     let mut x: u64 = 0;
     let mut i: usize = 0;
     while i < count {

@@ -1,21 +1,21 @@
 -- Theorems on the matrices of letterings over any number of spins: products, conjugate transposes, conversions, joins and rows.
 -- They hold for any letters with the facts `Closed` or `Converts` of TableLaws, which both kinds have. Assumes nothing.
 use mathlib.Core.Path.{_≡_, refl, sym, _∙_, ap, ap₂}
-use mathlib.Core.Bool.{Bool, true, false, cond}
+use mathlib.Core.Bool.{cond}
 use mathlib.Core.Logic.{_⊎_, ⊎-elim}
 use Prim.Native.Nat.{ℕ, zero, suc, _+_, _*_, _/_, _%_, _^_, _<_}
 use native.Mathlib.Omega.{arith}
 use native.Mathlib.Nat.{mod-eq-of-lt, zero-add, add-zero}
-use borrow.Author.Tests.{eq-eqb, ne-eqb}
+use borrow.Author.Tests.{eq-eqb}
 use lib.Dec.{eqb}
 use Rattle.letters.specs.Gauss.{G, 𝟘, 𝟙, _⊕_, _⊗_, conj, i^}
 use Rattle.letters.specs.Sums.{Σ, Π, total}
 use Rattle.letters.specs.Matrices.{Letters, bit, matrix, product, adjoint}
 use Rattle.letters.specs.Single.{letterOf, powerOf, times, conjugated, converted, cell}
 use Rattle.letters.specs.Rows.{columnOf, rowPower}
-use Rattle.letters.proofs.TestLaws.{eqb-sym}
+use Rattle.complex.proofs.FloatLaws.{eqb-sym}
 use Rattle.letters.proofs.GaussLaws.{𝟙-⊗, ⊗-𝟙, 𝟘-⊗, ⊗-𝟘, 𝟘-⊕, ⊕-𝟘, i^-zero, i^-mod, i^-not-zero}
-use Rattle.letters.proofs.SumLaws.{Π-cong-below, Π-mul, Π-last, Π-i^, conj-Π, total-zero}
+use Rattle.letters.proofs.SumLaws.{Π-cong-below, Π-mul, Π-i^, conj-Π, total-zero}
 use Rattle.letters.proofs.BitLaws.{bit-lt, binary-lt, binary-bits, one-cell, tensor-product}
 use Rattle.letters.proofs.TableLaws.{Closed, Converts, times-right, conjugated-right, converted-right}
 
@@ -26,26 +26,9 @@ pub matrix-same : (M : Letters) (n : ℕ) (f g : ℕ → ℕ) → ((s : ℕ) →
 unfolding matrix
 matrix-same M n f g e r c = Π-cong-below n (λ s. M (f s) (bit s r) (bit s c)) (λ s. M (g s) (bit s r) (bit s c)) (λ s h. ap (λ l. M l (bit s r) (bit s c)) (e s h))
 
--- the last spin apart
-pub matrix-last : (M : Letters) (n : ℕ) (f : ℕ → ℕ) (r c : ℕ) → matrix M (suc n) f r c ≡ matrix M n f r c ⊗ M (f n) (bit n r) (bit n c)
-unfolding matrix
-matrix-last M n f r c = Π-last n (λ s. M (f s) (bit s r) (bit s c))
-
 -- the letters that have the identity matrix as letter 0
 abbrev pub HasIdentity : Letters → Type 0
 HasIdentity M = (x y : ℕ) → x < 2 → y < 2 → M 0 x y ≡ cond (eqb x y) 𝟙 𝟘
-
--- one more spin with the letter 0: zero where the spin's bits differ, else the entry without it
-pub matrix-more : (M : Letters) → HasIdentity M → (n : ℕ) (f : ℕ → ℕ) → f n ≡ 0 → (r c : ℕ)
-    → matrix M (suc n) f r c ≡ cond (eqb (bit n r) (bit n c)) (matrix M n f r c) 𝟘
-matrix-more M I n f e r c =
-    matrix-last M n f r c
-    ∙ ap (λ x. matrix M n f r c ⊗ x) (ap (λ l. M l (bit n r) (bit n c)) e ∙ I (bit n r) (bit n c) (bit-lt n r) (bit-lt n c))
-    ∙ go (eqb (bit n r) (bit n c)) (matrix M n f r c)
-  where
-    go : (b : Bool) (x : G) → x ⊗ cond b 𝟙 𝟘 ≡ cond b x 𝟘
-    go true x = ⊗-𝟙 x
-    go false x = ⊗-𝟘 x
 
 -- matrices at the spins that are powers of i times letters: together the sum of the powers and the matrix of those letters
 pub sites-in-letters : (M : Letters) (n : ℕ) (A : ℕ → ℕ → ℕ → G) (k l : ℕ → ℕ) → ((s x y : ℕ) → s < n → x < 2 → y < 2 → A s x y ≡ i^ (k s) ⊗ M (l s) x y) → (r c : ℕ)
@@ -94,19 +77,6 @@ convert-matrix M M′ C n f hf r c =
   where
     entries : matrix M n f r c ≡ Π n (λ s. M (f s) (bit s r) (bit s c))
     entries = unfold matrix in refl
-
--- a conjugate transpose and a conversion keep the letters
-pub conjugate-keeps : (M : Letters) → Closed M → (n : ℕ) (f : ℕ → ℕ) → ((s : ℕ) → s < n → f s < 4) → (r c : ℕ)
-    → conj (matrix M n f c r) ≡ i^ (total (λ s. powerOf (conjugated M (f s))) n % 4) ⊗ matrix M n f r c
-conjugate-keeps M C n f hf r c =
-    conjugate-matrix M C n f hf r c
-    ∙ ap (λ x. i^ (total (λ s. powerOf (conjugated M (f s))) n % 4) ⊗ x) (matrix-same M n (λ s. letterOf (conjugated M (f s))) f (λ s h. C .conjugated-letter (f s) (hf s h)) r c)
-
-pub convert-keeps : (M M′ : Letters) → Converts M M′ → (n : ℕ) (f : ℕ → ℕ) → ((s : ℕ) → s < n → f s < 4) → (r c : ℕ)
-    → matrix M n f r c ≡ i^ (total (λ s. powerOf (converted M M′ (f s))) n % 4) ⊗ matrix M′ n f r c
-convert-keeps M M′ C n f hf r c =
-    convert-matrix M M′ C n f hf r c
-    ∙ ap (λ x. i^ (total (λ s. powerOf (converted M M′ (f s))) n % 4) ⊗ x) (matrix-same M′ n (λ s. letterOf (converted M M′ (f s))) f (λ s h. C .converted-letter (f s) (hf s h)) r c)
 
 -- ---- joins
 
@@ -163,14 +133,6 @@ columnOf-lt M n f r = binary-lt n (λ s. cell M (f s) (bit s r) % 2) (λ s h. go
     go : (e : ℕ) → e % 2 < 2
     go e = omega arith
 
--- the power of i is below 4
-pub rowPower-lt : (M : Letters) (n : ℕ) (f : ℕ → ℕ) (r : ℕ) → rowPower M n f r < 4
-unfolding rowPower
-rowPower-lt M n f r = go (total (λ s. cell M (f s) (bit s r) / 2) n)
-  where
-    go : (e : ℕ) → e % 4 < 4
-    go e = omega arith
-
 -- a row is zero but at its column, where a power of i stands
 pub row-matrix : (M : Letters) → Closed M → (n : ℕ) (f : ℕ → ℕ) → ((s : ℕ) → s < n → f s < 4) → (r c : ℕ) → c < 2 ^ n
     → matrix M n f r c ≡ cond (eqb c (columnOf M n f r)) (i^ (rowPower M n f r)) 𝟘
@@ -192,16 +154,12 @@ row-matrix M C n f hf r c hc =
     low : (e : ℕ) → e % 2 < 2
     low e = omega arith
 
--- what stands at the column, and elsewhere
+-- what stands at the column
 pub row-entry : (M : Letters) → Closed M → (n : ℕ) (f : ℕ → ℕ) → ((s : ℕ) → s < n → f s < 4) → (r : ℕ)
     → matrix M n f r (columnOf M n f r) ≡ i^ (rowPower M n f r)
 row-entry M C n f hf r =
     let k = columnOf M n f r in
     row-matrix M C n f hf r k (columnOf-lt M n f r) ∙ ap (λ t. cond t (i^ (rowPower M n f r)) 𝟘) (eq-eqb k k refl)
-
-pub row-zero : (M : Letters) → Closed M → (n : ℕ) (f : ℕ → ℕ) → ((s : ℕ) → s < n → f s < 4) → (r c : ℕ) → c < 2 ^ n → (c ≡ columnOf M n f r → ⊥)
-    → matrix M n f r c ≡ 𝟘
-row-zero M C n f hf r c hc d = row-matrix M C n f hf r c hc ∙ ap (λ t. cond t (i^ (rowPower M n f r)) 𝟘) (ne-eqb c (columnOf M n f r) d)
 
 -- the entry at the column is not zero
 pub row-not-zero : (M : Letters) → Closed M → (n : ℕ) (f : ℕ → ℕ) → ((s : ℕ) → s < n → f s < 4) → (r : ℕ) → matrix M n f r (columnOf M n f r) ≡ 𝟘 → ⊥

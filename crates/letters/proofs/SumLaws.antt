@@ -6,7 +6,7 @@ use native.Mathlib.Omega.{arith}
 use native.Mathlib.Nat.{pow-suc}
 use Rattle.letters.specs.Gauss.{G, 𝟘, 𝟙, _⊕_, _⊗_, conj, i^}
 use Rattle.letters.specs.Sums.{Σ, Π, total}
-use Rattle.letters.proofs.GaussLaws.{⊕-four, ⊗-four, ⊕-assoc, ⊗-assoc, ⊗-comm, ⊗-⊕, ⊕-𝟘, ⊗-𝟘, 𝟙-⊗, conj-⊕, conj-⊗, conj-𝟘, conj-𝟙, i^-add, i^-mod, i^-zero}
+use Rattle.letters.proofs.GaussLaws.{⊕-four, ⊗-four, ⊕-assoc, ⊗-assoc, ⊗-comm, ⊗-⊕, ⊕-𝟘, ⊗-𝟘, 𝟙-⊗, conj-⊗, conj-𝟙, i^-add, i^-mod, i^-zero}
 
 -- ---- sums
 
@@ -37,18 +37,6 @@ pub Σ-scale : (N : ℕ) (c : G) (f : ℕ → G) → Σ N (λ k. c ⊗ f k) ≡ 
 unfolding Σ
 Σ-scale zero c f = sym (⊗-𝟘 c)
 Σ-scale (suc N) c f = ap (λ x. x ⊕ c ⊗ f N) (Σ-scale N c f) ∙ sym (⊗-⊕ c (Σ N f) (f N))
-
--- two sums in either order
-pub Σ-swap : (N K : ℕ) (f : ℕ → ℕ → G) → Σ N (λ a. Σ K (f a)) ≡ Σ K (λ b. Σ N (λ a. f a b))
-unfolding Σ
-Σ-swap zero K f = sym (Σ-zero K)
-Σ-swap (suc N) K f = ap (λ x. x ⊕ Σ K (f N)) (Σ-swap N K f) ∙ sym (Σ-add K (λ b. Σ N (λ a. f a b)) (f N))
-
--- the conjugate of a sum
-pub conj-Σ : (N : ℕ) (f : ℕ → G) → conj (Σ N f) ≡ Σ N (λ k. conj (f k))
-unfolding Σ
-conj-Σ zero f = conj-𝟘
-conj-Σ (suc N) f = conj-⊕ (Σ N f) (f N) ∙ ap (λ x. x ⊕ conj (f N)) (conj-Σ N f)
 
 -- two numbers at a time
 pub Σ-two : (M : ℕ) (f : ℕ → G) → Σ (M * 2) f ≡ Σ M (λ k. f (k * 2) ⊕ f (k * 2 + 1))
@@ -86,12 +74,6 @@ pub Π-none : (g : ℕ → G) → Π 0 g ≡ 𝟙
 unfolding Π
 Π-none g = refl
 
--- a product of ones
-pub Π-one : (n : ℕ) → Π n (λ s. 𝟙) ≡ 𝟙
-unfolding Π
-Π-one zero = refl
-Π-one (suc n) = 𝟙-⊗ (Π n (λ s. 𝟙)) ∙ Π-one n
-
 -- a product of products
 pub Π-mul : (n : ℕ) (f g : ℕ → G) → Π n (λ s. f s ⊗ g s) ≡ Π n f ⊗ Π n g
 unfolding Π
@@ -125,15 +107,6 @@ pub total-zero : (n : ℕ) (f : ℕ → ℕ) → ((s : ℕ) → s < n → f s �
 unfolding total
 total-zero zero f e = refl
 total-zero (suc n) f e = ap₂ _+_ (total-zero n f (λ s h. e s (omega arith))) (e n (omega arith))
-
--- a sum of sums
-pub total-add : (n : ℕ) (f g : ℕ → ℕ) → total (λ s. f s + g s) n ≡ total f n + total g n
-unfolding total
-total-add zero f g = refl
-total-add (suc n) f g = ap (λ x. x + (f n + g n)) (total-add n f g) ∙ four (total f n) (total g n) (f n) (g n)
-  where
-    four : (a b c d : ℕ) → a + b + (c + d) ≡ a + c + (b + d)
-    four a b c d = omega arith
 
 -- a product of powers of i
 pub Π-power : (n : ℕ) (k : ℕ → ℕ) → Π n (λ s. i^ (k s)) ≡ i^ (total k n)

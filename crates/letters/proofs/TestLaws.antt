@@ -6,8 +6,6 @@ use mathlib.Core.Logic.{⊎-elim}
 use Prim.Native.Nat.{ℕ, zero, suc, _+_, _<_, _≤_}
 use native.Mathlib.Nat.{eq-or-lt-of-le}
 use native.Mathlib.Omega.{arith}
-use borrow.Author.Tests.{eqb-true, eq-eqb}
-use lib.Dec.{eqb}
 use Rattle.letters.specs.Tests.{every, firstFrom}
 
 pub and-true : {a b : Bool} → a ≡ true → b ≡ true → (a && b) ≡ true
@@ -85,11 +83,6 @@ first-holds p zero i h = absurd (omega arith)
 first-holds p (suc n) i h =
     first-step p i (firstFrom p n (suc i)) (p i) refl
     (λ e. first-holds p n (suc i) (let k : firstFrom p n (suc i) < i + suc n = rw e at h in omega arith))
-
--- ---- equality of numbers as a test
-
-pub eqb-sym : (a b : ℕ) → eqb a b ≡ eqb b a
-eqb-sym a b = bool-ext (eqb a b) (eqb b a) (λ e. eq-eqb b a (sym (eqb-true a b e))) (λ e. eq-eqb a b (sym (eqb-true b a e)))
 
 -- and fails at each number before it
 first-skip : (p : ℕ → Bool) (i r : ℕ) (b : Bool) → p i ≡ b → (k : ℕ) → i ≤ k → k < cond b i r → ((m : ℕ) → suc i ≤ m → m < r → p m ≡ false) → p k ≡ false

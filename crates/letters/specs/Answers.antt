@@ -39,7 +39,7 @@ conjugateLetter M l = cond (ltb highestLetter l) (refuses 2 []) (decoded (conjug
 unfoldable pub convertLetter : Letters → Letters → ℕ → Said (ℕ × ℕ)
 convertLetter M M′ l = cond (ltb highestLetter l) (refuses 2 []) (decoded (converted M M′ l))
 
--- the power of i as a complex factor, and as a real one (its real part; the factor of a power that is even)
+-- the power of i of a letter, or of a column, as a complex factor; and of a letter as a real one (the real part: the factor of a power that is even)
 abbrev pub asComplex : Said (ℕ × ℕ) → Said (ℕ × Complex)
 asComplex (gives x) = gives (x .0, unitOfI (x .1))
 asComplex (refuses k s) = refuses k s

@@ -30,7 +30,7 @@ use Rattle.hamiltonians.specs.Reals as reals
 use Rattle.contributions.specs.TermContributions.{commutatorContributions, noiseContributions}
 use Rattle.operator_rows.specs.OperatorRows.{commutatorRowOf, hamiltonianCommutatorRow}
 use Rattle.noise_sets.specs.Pairs as noise
-use Rattle.noise_sets.specs.Pairs.{itemsOf}
+use Rattle.noise_sets.specs.Pairs.{sidesOf}
 use Rattle.open_rows.specs.NoiseRows.{noiseRow}
 use Rattle.marked_cases.specs.Outcomes.{outcome}
 use Rattle.marked_cases.specs.Table.{table}
@@ -46,5 +46,5 @@ unfolding outcome table
     δ 𝟚 commutator adjointProduct dissipator minusHalfUnit operatorTerms commutatorTerms noiseTerms
     placed placeAll rowOf nonzero upTo valueAt keptBy rowIn outside unlessOutside checkedRow
     has each concatMap goodTerm validPlaces reals.filled reals.isBlank reals.validSet noise.filled noise.isBlank noise.validSet
-    commutatorContributions commutatorRowOf hamiltonianCommutatorRow itemsOf noiseContributions noiseRow
+    commutatorContributions commutatorRowOf hamiltonianCommutatorRow sidesOf noiseContributions noiseRow
 every-case = refl

@@ -1,4 +1,4 @@
-// Whether a number, or a pair of numbers, is new among the first n of a list, helped by marks of the numbers seen.
+// Whether the masks of a product, or of a pair of products, are new among the first n of a list, helped by marks of the masks seen.
 ghost use mathlib.Core.Path.{_≡_};
 ghost use mathlib.Core.Bool.{not};
 ghost use Prim.Native.Nat.{_≤_, min};
@@ -9,14 +9,14 @@ ghost use Rattle.terms.specs.Setting.{mostTerms};
 ghost use Rattle.terms.specs.Marks.{markOf, newByMarks, sameTwo, markOfPair};
 use terms::MOST_TERMS;
 
-// Whether none of the first n places has a number.
-fn is_new(numbers: &[u64; MOST_TERMS], n: usize, x: u64) -> bool
+// Whether none of the first n places has the masks x.
+fn is_new(masks: &[u64; MOST_TERMS], n: usize, x: u64) -> bool
     requires { ⌜ n ≤ mostTerms ⌝ }
-    ensures { λ r. ⌜ r ≡ every n (λ j. not (eqb (getD (now (numbers .entry)) j 0) x)) ⌝ }
+    ensures { λ r. ⌜ r ≡ every n (λ j. not (eqb (getD (now (masks .entry)) j 0) x)) ⌝ }
 {
     let mut j: usize = 0;
     while j < n {
-        if numbers[j] == x {
+        if masks[j] == x {
             return false;
         }
         j += 1;
@@ -24,28 +24,28 @@ fn is_new(numbers: &[u64; MOST_TERMS], n: usize, x: u64) -> bool
     true
 }
 
-// The place of a number's mark.
+// The place of the masks' mark.
 pub fn mark_of(x: u64) -> usize
     ensures { λ r. ⌜ r ≡ markOf x ⌝ }
 {
     (x % 251) as usize
 }
 
-// Whether a number's mark is not set, or none of the first n places has it: only where the mark is set are they compared.
-pub fn is_new_marked(marks: &[u8; 256], numbers: &[u64; MOST_TERMS], n: usize, x: u64) -> bool
-    ensures { λ r. ⌜ r ≡ newByMarks markOf eqb (now (marks .entry)) (λ j. getD (now (numbers .entry)) j 0) (min n mostTerms) x ⌝ }
+// Whether the mark of the masks x is not set, or none of the first n places has them: only where the mark is set are they compared.
+pub fn is_new_marked(marks: &[u8; 256], masks: &[u64; MOST_TERMS], n: usize, x: u64) -> bool
+    ensures { λ r. ⌜ r ≡ newByMarks markOf eqb (now (marks .entry)) (λ j. getD (now (masks .entry)) j 0) (min n mostTerms) x ⌝ }
 {
     let at = mark_of(x);
     if marks[at] == 0 {
         return true;
     }
     if MOST_TERMS < n {
-        return is_new(numbers, MOST_TERMS, x);
+        return is_new(masks, MOST_TERMS, x);
     }
-    is_new(numbers, n, x)
+    is_new(masks, n, x)
 }
 
-// Whether none of the first n places of both arrays has two numbers.
+// Whether none of the first n places of both arrays has the masks of both.
 fn is_new_pair(
     lefts: &[u64; MOST_TERMS],
     rights: &[u64; MOST_TERMS],
@@ -68,14 +68,14 @@ fn is_new_pair(
     true
 }
 
-// The place of two numbers' mark.
+// The place of the mark of two products' masks.
 pub fn pair_mark_of(left: u64, right: u64) -> usize
     ensures { λ r. ⌜ r ≡ markOfPair (left, right) ⌝ }
 {
     ((left % 251 + 5 * (right % 251)) % 251) as usize
 }
 
-// Whether two numbers' mark is not set, or none of the first n places has both: only where the mark is set are they compared.
+// Whether the mark of two products' masks is not set, or none of the first n places has both: only where the mark is set are they compared.
 pub fn is_new_pair_marked(
     marks: &[u8; 256],
     lefts: &[u64; MOST_TERMS],

@@ -1,6 +1,6 @@
 pub mod PushLaws
 pub mod StepLaws
 pub mod MergeLaws
-pub mod PutLaws
+pub mod SiteLaws
 pub mod TargetLaws
 pub mod RemapLaws

@@ -3,6 +3,7 @@
 use mathlib.Core.Path.{_≡_, refl, sym, ap, ap₂, _∙_, subst}
 use mathlib.Core.Bool.{true}
 use Prim.Native.Nat.{ℕ, suc, _+_, _-_, _%_, _≤_, _<_}
+use native.Mathlib.Nat.{le-max-left, le-max-right}
 use native.Mathlib.Decide.{decLt}
 use native.Mathlib.Omega.{arith}
 use Rattle.letters.specs.Sums.{total}
@@ -14,7 +15,6 @@ use Rattle.items.specs.Record.{capacity, highestSite, valid, letterAt, reach, r
 use Rattle.merging.specs.Steps.{pushItem, nextSite, stepOf}
 use Rattle.items.specs.declared.Items.{Items}
 use Rattle.merging.specs.declared.merge.Step.{Step}
-use Rattle.items.proofs.ListLaws.{larger-left, larger-right}
 use Rattle.items.proofs.RecordLaws.{valid-shape, valid-at, letter-here, letter-code, letter-beyond}
 use Rattle.items.proofs.Cursor.{Cursor, cursor-none, cursor-gap, cursor-end, cursor-pass, cursor-stay, total-any, total-site}
 use Rattle.merging.proofs.PushLaws.{push-fits, push-record, record-any}
@@ -199,8 +199,8 @@ module _ (M : Letters) (closed : Closed M) (p q : Items) (v : valid p ≡ true) 
   met-beyond : (s : ℕ) → reachOf p q ≤ s → met M p q s ≡ 0
   met-beyond s l =
       met-none s
-      (letter-beyond p v s (omega (arith, larger-left (reach p) (reach q))))
-      (letter-beyond q w s (omega (arith, larger-right (reach p) (reach q))))
+      (letter-beyond p v s (omega (arith, le-max-left (reach p) (reach q))))
+      (letter-beyond q w s (omega (arith, le-max-right (reach p) (reach q))))
 
   -- after the last step
   pub merging-items : {i j : ℕ} {out : Items} {power : ℕ} → Merging M p q i j out power → p .count + q .count ≤ i + j → out ≡ recordOf (λ s. letterOf (met M p q s)) (reachOf p q)

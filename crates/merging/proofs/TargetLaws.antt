@@ -4,8 +4,8 @@ use mathlib.Core.Path.{_≡_, refl, sym, ap, _∙_}
 use mathlib.Core.List.{List}
 use mathlib.Core.Bool.{Bool, true, false, not, cond}
 use mathlib.Core.Logic.{⊎-elim, _⊎_, inl, inr}
-use Prim.Native.Nat.{ℕ, zero, suc, _+_, _≤_, _<_}
-use native.Mathlib.Nat.{not-suc-le-zero}
+use Prim.Native.Nat.{ℕ, zero, suc, _+_, _≤_, _<_, min}
+use native.Mathlib.Nat.{not-suc-le-zero, le-max-left, le-max-right, max-le, min-eq-left, min-eq-right, min-le-right}
 use native.Mathlib.Numerals.{add-one}
 use native.Mathlib.Decide.{ℕ-discrete, decLt}
 use native.Mathlib.Omega.{arith}
@@ -13,10 +13,10 @@ use lib.Dec.{ltb, eqb}
 use borrow.Author.Tests.{lt-ltb, le-ltb, ltb-false, eq-eqb, ne-eqb}
 use Rattle.letters.specs.Tests.{firstFrom}
 use Rattle.letters.proofs.TestLaws.{every-intro, every-false, first-at, first-none, first-before}
-use Rattle.items.specs.Lists.{at, smaller}
+use Rattle.items.specs.Lists.{at}
 use Rattle.items.specs.Record.{highestSite}
 use Rattle.merging.specs.Targets.{hasTarget, lowestShared, targetReach, firstTooHigh}
-use Rattle.items.proofs.ListLaws.{below-cases, larger-left, larger-right, larger-most}
+use Rattle.items.proofs.ListLaws.{below-cases}
 use Rattle.items.proofs.RecordLaws.{Passed}
 
 -- ---- the first target that is too high
@@ -116,11 +116,11 @@ shared-new t n h = rw h
 
 pub shared-lower : (t : ℕ → ℕ) (n : ℕ) → hasTarget t n (t n) ≡ true → t n < lowestShared t n → lowestShared t (suc n) ≡ t n
 unfolding lowestShared
-shared-lower t n h l = rw (h, lt-ltb (t n) (lowestShared t n) l)
+shared-lower t n h l = let below : t n ≤ lowestShared t n = omega arith in rw (h, min-eq-left below)
 
 pub shared-kept : (t : ℕ → ℕ) (n : ℕ) → hasTarget t n (t n) ≡ true → lowestShared t n ≤ t n → lowestShared t (suc n) ≡ lowestShared t n
 unfolding lowestShared
-shared-kept t n h l = rw (h, le-ltb (t n) (lowestShared t n) l)
+shared-kept t n h l = rw (h, min-eq-right l)
 
 -- targets that agree below n
 pub shared-ext : (t t′ : ℕ → ℕ) (n : ℕ) → ((i : ℕ) → i < n → t i ≡ t′ i) → lowestShared t n ≡ lowestShared t′ n
@@ -172,9 +172,9 @@ shared-down : (t : ℕ → ℕ) (n : ℕ) → lowestShared t (suc n) ≤ lowestS
 unfolding lowestShared
 shared-down t n = go (hasTarget t n (t n)) (lowestShared t n)
   where
-    go : (b : Bool) (l : ℕ) → cond b (smaller (t n) l) l ≤ l
+    go : (b : Bool) (l : ℕ) → cond b (min (t n) l) l ≤ l
     go false l = omega arith
-    go true l = elim (decLt (t n) l) [ yes h ↦ rw (lt-ltb (t n) l h) (omega arith) | no h ↦ rw (le-ltb (t n) l (omega arith)) (omega arith) ]
+    go true l = min-le-right (t n) l
 
 -- and no lower target is shared
 pub shared-lowest : (t : ℕ → ℕ) (n u : ℕ) → Shared t n u → lowestShared t n ≤ u
@@ -234,15 +234,16 @@ unfolding targetReach
 target-below-reach t zero i l = absurd (not-suc-le-zero l)
 target-below-reach t (suc n) i l =
     ⊎-elim
-    (λ e. omega (arith, ap t e, larger-right (targetReach t n) (suc (t n))))
-    (λ q. omega (arith, target-below-reach t n i q, larger-left (targetReach t n) (suc (t n))))
+    (λ e. omega (arith, ap t e, le-max-right (targetReach t n) (suc (t n))))
+    (λ q. omega (arith, target-below-reach t n i q, le-max-left (targetReach t n) (suc (t n))))
     (below-cases i n l)
 
 pub target-reach-most : (t : ℕ → ℕ) (n m : ℕ) → ((i : ℕ) → i < n → t i ≤ m) → targetReach t n ≤ suc m
 unfolding targetReach
 target-reach-most t zero m h = omega arith
 target-reach-most t (suc n) m h =
-    larger-most (targetReach t n) (suc (t n)) (suc m) (target-reach-most t n m (λ i l. h i (omega arith))) (omega (arith, h n (omega arith)))
+    let last : suc (t n) ≤ suc m = omega (arith, h n (omega arith)) in
+    max-le (target-reach-most t n m (λ i l. h i (omega arith))) last
 
 pub target-reach-ext : (t t′ : ℕ → ℕ) (n : ℕ) → ((i : ℕ) → i < n → t i ≡ t′ i) → targetReach t n ≡ targetReach t′ n
 unfolding targetReach

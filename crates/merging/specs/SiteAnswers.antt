@@ -2,11 +2,10 @@
 -- decoherence_product.rs and `Numbers of the no`. Beside a refusal stands the record given.
 use mathlib.Core.List.{List, [], _∷_}
 use mathlib.Core.Bool.{not, cond}
-use Prim.Native.Nat.{ℕ, suc}
+use Prim.Native.Nat.{ℕ, suc, max}
 use lib.Dec.{ltb, eqb}
 use Rattle.refusal.specs.Refusals.{Said, gives, refuses, done, number, siteOf}
 use Rattle.letters.specs.Answers.{highestLetter}
-use Rattle.items.specs.Lists.{larger}
 use Rattle.items.specs.Record.{highestSite, valid, letterAt, reach, recordOf, update}
 use Rattle.items.specs.declared.Items.{Items}
 use Rattle.items.specs.declared.Got.{Got}
@@ -24,7 +23,7 @@ setAnswer p s l =
     cond (not (valid p)) (refuses 0 [], p)
     (cond (ltb highestSite s) (refuses 1 (s ∷ []), p)
     (cond (ltb highestLetter l) (refuses 2 [], p)
-    (done, recordOf (update (letterAt p) s l) (larger (reach p) (suc s)))))
+    (done, recordOf (update (letterAt p) s l) (max (reach p) (suc s)))))
 
 -- ---- what each case of an answer says, and the record beside it
 

@@ -2,11 +2,11 @@
 -- decoherence_product.rs and `Numbers of the no`. Beside a refusal stands the record given.
 use mathlib.Core.List.{[], _∷_, map}
 use mathlib.Core.Bool.{Bool, not, cond}
-use Prim.Native.Nat.{ℕ, zero, suc}
+use Prim.Native.Nat.{ℕ, zero, suc, max, min}
 use lib.Dec.{ltb, leb, eqb}
 use Rattle.refusal.specs.Refusals.{Said, refuses, done}
 use Rattle.letters.specs.Tests.{every, firstFrom}
-use Rattle.items.specs.Lists.{at, larger, smaller}
+use Rattle.items.specs.Lists.{at}
 use Rattle.items.specs.Record.{highestSite, valid, lookup, recordOf}
 use Rattle.items.specs.declared.Items.{Items}
 
@@ -17,12 +17,12 @@ hasTarget t n u = not (every n (λ i. not (eqb (t i) u)))
 -- the lowest of the first n targets that two of them share; one more than the highest site where there is none
 unfoldable pub lowestShared : (ℕ → ℕ) → ℕ → ℕ
 lowestShared t zero = suc highestSite
-lowestShared t (suc n) = cond (hasTarget t n (t n)) (smaller (t n) (lowestShared t n)) (lowestShared t n)
+lowestShared t (suc n) = cond (hasTarget t n (t n)) (min (t n) (lowestShared t n)) (lowestShared t n)
 
 -- one more than the highest of the first n targets
 unfoldable pub targetReach : (ℕ → ℕ) → ℕ → ℕ
 targetReach t zero = 0
-targetReach t (suc n) = larger (targetReach t n) (suc (t n))
+targetReach t (suc n) = max (targetReach t n) (suc (t n))
 
 -- the place of the first occupied site whose target is too high; n where there is none
 unfoldable pub firstTooHigh : (ℕ → ℕ) → ℕ → ℕ

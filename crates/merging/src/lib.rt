@@ -1,5 +1,5 @@
 // Records of products made by bringing places together: a site set or read, two products multiplied or joined, letters moved.
 mod merge;
 pub mod multiply;
-pub mod put;
 pub mod remap;
+pub mod site;

@@ -24,8 +24,8 @@ pub(crate) struct Step {
     pub right: usize,
 }
 
-// A letter times i to a power.
-pub(crate) struct Scaled {
+// The letter and the power of i of a site that both products occupy.
+struct SharedLetter {
     pub letter: u8,
     pub power: u8,
 }
@@ -67,14 +67,14 @@ fn next_site(p: Items, i: usize) -> usize
     wide(HIGHEST_SITE) + 1
 }
 
-// The product of the letters of a site that both products occupy.
-fn shared_site(kind: Kind, left: u8, right: u8) -> Scaled
+// The product of the letters of a site that both products occupy. Letters below 4 are not refused: the second arm is never taken.
+fn shared_site(kind: Kind, left: u8, right: u8) -> SharedLetter
     requires { ⌜ (left < 4) × (right < 4) ⌝ }
     ensures { λ r. ⌜ (r .letter ≡ letterOf (times (lettersOf kind) left right)) × (r .power ≡ powerOf (times (lettersOf kind) left right)) ⌝ }
 {
     match letters::multiply(kind, left, right) {
-        LetterAnswer::Letter(letter, power) => Scaled { letter, power },
-        LetterAnswer::Refused(_) => Scaled {
+        LetterAnswer::Letter(letter, power) => SharedLetter { letter, power },
+        LetterAnswer::Refused(_) => SharedLetter {
             letter: 0,
             power: 0,
         },

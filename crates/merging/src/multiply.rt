@@ -6,7 +6,7 @@ ghost use Rattle.items.specs.Answers.{toldPower, told};
 ghost use Rattle.merging.specs.ProductAnswers.{multiplyAnswer, firstOccupied, concatenateAnswer};
 ghost use Rattle.items.specs.Record.{valid};
 use crate::merge::merged;
-use crate::put::letter_at;
+use crate::site::letter_at;
 use items::Items;
 use items::ItemsAnswer;
 use items::ItemsWithPower;

@@ -6,7 +6,7 @@ ghost use Rattle.items.specs.Lists.{at};
 ghost use Rattle.items.specs.Record.{valid, capacity, highestSite, lookup, recordOf};
 ghost use Rattle.merging.specs.Targets.{firstTooHigh, hasTarget, lowestShared, targetReach, remapAnswer};
 ghost use Rattle.items.specs.Answers.{told};
-use crate::put::put;
+use crate::site::put;
 use items::CAPACITY;
 use items::HIGHEST_SITE;
 use items::Items;

@@ -10,7 +10,7 @@ use Rattle.complex.specs.declared.Complex.{Complex}
 use Rattle.terms.specs.Keyed.{concatMap}
 use Rattle.terms.specs.Setting.{addAll}
 use Rattle.terms.specs.Entries as entries
-use Rattle.terms.specs.Chains.{pairTerms as fullTerms}
+use Rattle.terms.specs.Chains.{fullTerms}
 use Rattle.terms.specs.Runs.{orFull, addOn}
 use Rattle.terms.proofs.RunLaws.{run-same, addOn-nil, addOn-gives, run-addOn}
 use Rattle.term_sets.specs.Complexes.{complexTerms, complexProducts}

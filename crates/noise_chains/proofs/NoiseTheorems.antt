@@ -1,36 +1,29 @@
 -- What setting, adding and full operators mean for noise sets, over Gaussian coefficients: for any value of a pair (an entry of its
 -- dissipator, say), the sum over the set's terms of coefficient times value.
 -- Assumes nothing.
-use mathlib.Core.Path.{_≡_, ap, ap₂, _∙_}
+use mathlib.Core.Path.{_≡_, ap, _∙_}
 use mathlib.Core.Bool.{true, not, _&&_, cond}
 use mathlib.Core.List.{List}
 use mathlib.Core.Option.{some}
 use Rattle.letters.specs.Gauss.{G, 𝟘, _⊕_, _⊗_, conj}
-use Rattle.letters.proofs.TestLaws.{and-left, and-right}
-use Rattle.items.specs.Record.{sameItems}
+use Rattle.items.specs.Record.{sameItems, sameKey}
 use Rattle.items.specs.declared.Items.{Items}
-use Rattle.items.proofs.SameLaws.{same-equal}
+use Rattle.items.proofs.SameLaws.{same-key-equal}
 use Rattle.terms.specs.Gaussian.{gaussian, gaussianProducts, weighted, summed}
 use Rattle.terms.specs.Kind.{Terms}
 use Rattle.terms.specs.Setting.{coefficientAt, write, added, addAll}
-use Rattle.terms.specs.Chains.{pairTerms as fullTerms}
+use Rattle.terms.specs.Chains.{fullTerms}
 use Rattle.terms.proofs.Totals.{weighted-write, weighted-added, weighted-addAll, weighted-pairs}
 use Rattle.term_sets.specs.Matrices.{gaussianTerms}
-use Rattle.noise_sets.specs.Pairs.{Key, sameKey, isEmpty}
+use Rattle.noise_sets.specs.Pairs.{Key, isEmpty}
 
 -- noise sets with Gaussian coefficients
 abbrev pub gaussianPairs : Terms Key G
 gaussianPairs = gaussian Key sameKey
 
--- keys that pass the test are equal
-key-equal : (x y : Key) → sameKey x y ≡ true → x ≡ y
-key-equal x y e =
-    ap₂ (λ (p q : Items). (p, q)) (same-equal (x .0) (y .0) (and-left (sameItems (x .0) (y .0)) (sameItems (x .1) (y .1)) e))
-    (same-equal (x .1) (y .1) (and-right (sameItems (x .0) (y .0)) (sameItems (x .1) (y .1)) e))
-
 module _ (φ : Key → G) where
   respects : (x y : Key) → sameKey x y ≡ true → φ x ≡ φ y
-  respects x y e = ap φ (key-equal x y e)
+  respects x y e = ap φ (same-key-equal x y e)
 
   -- a coefficient put under a pair takes the place of the old one
   pub write-theorem : (k : Key) (a : G) (l : List (Key × G)) → weighted φ (write gaussianPairs k a l) ⊕ coefficientAt gaussianPairs k l ⊗ φ k ≡ weighted φ l ⊕ a ⊗ φ k

@@ -18,7 +18,7 @@ use Rattle.items.specs.declared.Items.{Items}
 use Rattle.items.proofs.RecordLaws.{valid-at, letter-here, letter-occupied}
 use Rattle.merging.proofs.RemapLaws.{Movable, remap-valid, remap-letter, remap-movable}
 use Rattle.terms.specs.Setting.{write, hasRoom, added}
-use Rattle.terms.specs.Chains.{pairTerms as fullTerms}
+use Rattle.terms.specs.Chains.{fullTerms}
 use Rattle.terms.proofs.KeyedLaws.{All, all-nil, all-cons, all-head, all-tail, all-each}
 use Rattle.terms.proofs.EachLaws.{all-lists}
 use Rattle.terms.proofs.AnswerLaws.{Answered, answered-past, answered-unless, ended-answered}

@@ -12,7 +12,7 @@ use Rattle.merging.specs.Targets.{remapAnswer}
 use Rattle.terms.specs.Setting.{write, hasRoom, added, addAll}
 use Rattle.terms.specs.Entries.{setIn, addIn}
 use Rattle.terms.specs.Entries as entries
-use Rattle.terms.specs.Chains.{pairTerms as fullTerms}
+use Rattle.terms.specs.Chains.{fullTerms}
 use Rattle.term_sets.specs.Complexes.{complexTerms, complexProducts}
 use Rattle.term_sets.specs.Complexes as operators
 use Rattle.term_sets.specs.declared.TermSet.{TermSet}

@@ -16,7 +16,7 @@ use noise_sets::NoiseTerm;
 use noise_sets::blank_term;
 use noise_sets::coefficient_at;
 use noise_sets::empty_side;
-use noise_sets::find_from;
+use noise_sets::find;
 use noise_sets::is_valid;
 use noise_sets::valid_key;
 use noise_sets::was;
@@ -56,7 +56,7 @@ pub(crate) fn put(s: NoiseSet, left: Items, right: Items, value: Complex) -> Wri
     ensures set { λ r. ⌜ r .set ≡ cond (hasRoom pairTerms (left, right) value (heldBy s)) (filled (write pairTerms (left, right) value (heldBy s))) s ⌝ }
 {
     let n = s.count;
-    let i = find_from(s, 0, left, right);
+    let i = find(s, left, right);
     if value.is_zero() {
         if i < n {
             return Written {

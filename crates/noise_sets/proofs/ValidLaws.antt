@@ -7,8 +7,8 @@ use mathlib.Core.List.{[]}
 use Rattle.letters.proofs.TestLaws.{and-true, and-left, and-right}
 use Rattle.complex.specs.Complex.{inRange, isPlusZero}
 use Rattle.complex.proofs.ZeroLaws.{plus-zero-passes}
-use Rattle.items.specs.Record.{sameItems, emptyProduct}
-use Rattle.items.proofs.SameLaws.{same-self, same-equal}
+use Rattle.items.specs.Record.{emptyProduct, sameKey}
+use Rattle.items.proofs.SameLaws.{same-key-self, same-key-equal}
 use Rattle.terms.specs.Keyed.{each}
 use Rattle.terms.specs.Setting.{mostTerms}
 use Rattle.terms.specs.Places.{validPlaces}
@@ -17,7 +17,7 @@ use Rattle.terms.proofs.PlacesLaws.{Valid}
 use Rattle.terms.proofs.ValidSetLaws.{ValidSets}
 use Rattle.terms.proofs.ValidSetLaws as laws
 use Rattle.term_sets.proofs.ValidLaws.{zero-only}
-use Rattle.noise_sets.specs.Pairs.{Key, sameKey, pairTerms, isEmpty, blank, heldBy, filled, goodKey, goodCoefficient, goodTerm, isBlank, validSet}
+use Rattle.noise_sets.specs.Pairs.{Key, pairTerms, isEmpty, blank, heldBy, filled, goodKey, goodCoefficient, goodTerm, isBlank, validSet}
 use Rattle.noise_sets.specs.Answers.{validKey, emptySide}
 use Rattle.noise_sets.specs.declared.NoiseTerm.{NoiseTerm}
 use Rattle.noise_sets.specs.declared.NoiseSet.{NoiseSet}
@@ -28,18 +28,6 @@ use Rattle.noise_sets.proofs.SetLaws.{noiseSets}
 -- the key of a term
 abbrev pub keyOf : NoiseTerm → Key
 keyOf t = (t .left, t .right)
-
--- a key is the same as itself, and as no other one
-pub same-key-self : (k : Key) → sameKey k k ≡ true
-same-key-self k = and-true (same-self (k .0)) (same-self (k .1))
-
-pub same-key-equal : (k m : Key) → sameKey k m ≡ true → k ≡ m
-same-key-equal k m e =
-    let left = sameItems (k .0) (m .0) in
-    let right = sameItems (k .1) (m .1) in
-    let p = same-equal (k .0) (m .0) (and-left left right e) in
-    let q = same-equal (k .1) (m .1) (and-right left right e) in
-    λ j. (p j, q j)
 
 -- ---- blanks
 

@@ -6,7 +6,7 @@ use lib.Dec.{eqb}
 use lib.ListN.{length, take}
 use Rattle.complex.specs.Complex.{sumOf, isZero, inRange, isPlusZero}
 use Rattle.complex.specs.declared.Complex.{Complex}
-use Rattle.items.specs.Record.{valid, sameItems, emptyProduct}
+use Rattle.items.specs.Record.{valid, sameItems, sameKey, emptyProduct}
 use Rattle.items.specs.declared.Items.{Items}
 use Rattle.terms.specs.Keyed.{padded, concatMap}
 use Rattle.terms.specs.Kind.{Terms}
@@ -19,9 +19,6 @@ use Rattle.noise_sets.specs.declared.NoiseSet.{NoiseSet}
 -- a pair of products
 abbrev pub Key : Type 0
 Key = Items × Items
-
-abbrev pub sameKey : Key → Key → Bool
-sameKey x y = sameItems (x .0) (y .0) && sameItems (x .1) (y .1)
 
 abbrev pub pairOf : Key → Complex → NoiseTerm
 pairOf k a = record { left = k .0; right = k .1; coefficient = a }
@@ -81,5 +78,5 @@ validSet s = places.validPlaces goodTerm isBlank (s .count) (s .terms)
 abbrev pub sides : NoiseTerm → List Items
 sides t = t .left ∷ t .right ∷ []
 
-unfoldable pub itemsOf : List NoiseTerm → List Items
-itemsOf l = concatMap sides l
+unfoldable pub sidesOf : List NoiseTerm → List Items
+sidesOf l = concatMap sides l

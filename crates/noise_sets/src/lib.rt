@@ -1,8 +1,6 @@
 // A set of noise terms, pairs of decoherence products with a complex coefficient: the first `count` places hold terms, zero records stand past them.
 ghost use mathlib.Core.Path.{_≡_};
 ghost use mathlib.Core.List.{[], map};
-ghost use Prim.Native.Nat.{_+_};
-ghost use lib.ListN.{drop};
 ghost use Rattle.noise_sets.specs.Pairs.{blank, filled, pairTerms, heldBy, validSet};
 ghost use Rattle.terms.specs.Setting.{keyed, coefficientAt};
 ghost use Rattle.terms.specs.Keyed.{firstAt, held};
@@ -76,12 +74,12 @@ fn has_key(t: NoiseTerm, left: Items, right: Items) -> bool
     false
 }
 
-// The place of the first term with a key, from a place on; where there is none, the end of the held terms, or the place itself if it is past that.
-pub fn find_from(s: NoiseSet, from: usize, left: Items, right: Items) -> usize
-    ensures { λ r. ⌜ r ≡ from + firstAt (keyed pairTerms (left, right)) (drop from (heldBy s)) ⌝ }
+// The place of the first term with a key; where there is none, the end of the held terms.
+pub fn find(s: NoiseSet, left: Items, right: Items) -> usize
+    ensures { λ r. ⌜ r ≡ firstAt (keyed pairTerms (left, right)) (heldBy s) ⌝ }
 {
     let n = held_count(s.count);
-    let mut i = from;
+    let mut i: usize = 0;
     while i < n {
         let t = s.terms[i];
         if has_key(t, left, right) {
@@ -97,7 +95,7 @@ pub fn coefficient_at(s: NoiseSet, left: Items, right: Items) -> Complex
     ensures { λ r. ⌜ r ≡ coefficientAt pairTerms (left, right) (heldBy s) ⌝ }
 {
     let n = held_count(s.count);
-    let i = find_from(s, 0, left, right);
+    let i = find(s, left, right);
     if i < n {
         let t = s.terms[i];
         return t.coefficient;
@@ -110,7 +108,7 @@ pub fn was(s: NoiseSet, left: Items, right: Items) -> SetAnswer
     ensures { λ r. ⌜ saidSet r ≡ gives (map (λ t. t .coefficient) (held (keyed pairTerms (left, right)) (heldBy s))) ⌝ }
 {
     let n = held_count(s.count);
-    let i = find_from(s, 0, left, right);
+    let i = find(s, left, right);
     if i < n {
         let t = s.terms[i];
         let c = t.coefficient;

@@ -75,7 +75,7 @@ fn good_parts(left: bool, right: bool, p: Items, q: Items, c: Complex) -> bool
     good_coefficient(c)
 }
 
-// Whether it is, and the numbers of its products: their masks, where number 0 lets them pass.
+// Whether it is, and the masks of its products, where number 0 lets them pass.
 struct PairVerdict {
     good: bool,
     left: u64,
@@ -112,7 +112,7 @@ fn refused() -> PairMasks
     }
 }
 
-// The held terms' masks and coefficients, where every held term is good. Good terms with the same two numbers have one key, so numbers
+// The held terms' masks and coefficients, where every held term is good. Good terms with the same masks have one key, so masks
 // that repeat are refused.
 fn gathered(s: NoiseSet) -> PairMasks
     requires { ⌜ s .count ≤ mostTerms ⌝ }

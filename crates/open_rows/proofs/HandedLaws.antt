@@ -31,7 +31,7 @@ use Rattle.open_rows.specs.Masked.{MaskedTerms, MaskedPairs}
 use Rattle.hamiltonians.specs.Reals.{hamiltonianTerms}
 use Rattle.term_sets.specs.Complexes as operators
 use Rattle.noise_sets.specs.Pairs.{sides}
-use Rattle.outside_sites.specs.SystemItems.{itemsOf}
+use Rattle.outside_sites.specs.SystemItems.{systemItems}
 use Rattle.outside_sites.proofs.OutsideLaws.{outside-none, outside-past, first-inside, reach-below, rest-inside}
 use Rattle.outside_sites.proofs.AcceptedLaws.{AllValid}
 
@@ -136,15 +136,15 @@ sides-inside n (t ∷ w) a b =
     ∙ first-inside n (t .right) (concatMap sides w) refl (reach-below n (t .right) (map (λ t. t .right) w) b)
     ∙ sides-inside n w (rest-inside n (t .left) (map (λ t. t .left) w) a) (rest-inside n (t .right) (map (λ t. t .right) w) b)
 
-pub pairs-inside : (lefts rights : List ℕ) {n : ℕ} (w : List NoiseTerm) (spins : ℕ) → Inside spins lefts n → Inside spins rights n → AllValid (pairs.itemsOf w) → length w ≡ n
-    → take n lefts ≡ map (λ t. masksOf (t .left)) w → take n rights ≡ map (λ t. masksOf (t .right)) w → outside spins (pairs.itemsOf w) ≡ []
-unfolding pairs.itemsOf
+pub pairs-inside : (lefts rights : List ℕ) {n : ℕ} (w : List NoiseTerm) (spins : ℕ) → Inside spins lefts n → Inside spins rights n → AllValid (pairs.sidesOf w) → length w ≡ n
+    → take n lefts ≡ map (λ t. masksOf (t .left)) w → take n rights ≡ map (λ t. masksOf (t .right)) w → outside spins (pairs.sidesOf w) ≡ []
+unfolding pairs.sidesOf
 pairs-inside lefts rights w spins a b v e l r =
     sides-inside spins w
     (a (map (λ t. t .left) w) (lefts-valid w v) (length-map w (λ t. t .left) ∙ e) (l ∙ sym (map-map masksOf (λ (t : NoiseTerm). t .left) w)))
     (b (map (λ t. t .right) w) (rights-valid w v) (length-map w (λ t. t .right) ∙ e) (r ∙ sym (map-map masksOf (λ (t : NoiseTerm). t .right) w)))
 
 pub both-inside : (masks : List ℕ) {m : ℕ} (h : List Term) (w : List NoiseTerm) (spins : ℕ) → Inside spins masks m → AllValid (operators.itemsOf h) → length h ≡ m
-    → take m masks ≡ map (λ t. masksOf (t .items)) h → outside spins (pairs.itemsOf w) ≡ [] → outside spins (itemsOf h w) ≡ []
+    → take m masks ≡ map (λ t. masksOf (t .items)) h → outside spins (pairs.sidesOf w) ≡ [] → outside spins (systemItems h w) ≡ []
 both-inside masks h w spins a v k e o =
-    outside-past spins (operators.itemsOf h) (pairs.itemsOf w) (a (operators.itemsOf h) v (length-map h (λ t. t .items) ∙ k) (e ∙ sym (map-map masksOf (λ (t : Term). t .items) h))) ∙ o
+    outside-past spins (operators.itemsOf h) (pairs.sidesOf w) (a (operators.itemsOf h) v (length-map h (λ t. t .items) ∙ k) (e ∙ sym (map-map masksOf (λ (t : Term). t .items) h))) ∙ o

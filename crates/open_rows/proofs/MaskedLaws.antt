@@ -74,8 +74,8 @@ module _ {lefts rights : List ℕ} {res ims : List Float} {n : ℕ} {l : List No
 pub product-accepted-at : {n rows r : ℕ} (l : List Term) (i : ℕ) (d : Term) → i < length l → Accepted n rows r (itemsOf l) → Accepted n rows r (getD l i d .items ∷ [])
 product-accepted-at {n} {rows} {r} l i d h k = accepted-at product l i d h (subst (Accepted n rows r) (sym (products-are l)) k)
 
-pub sides-accepted-at : {n rows r : ℕ} (l : List NoiseTerm) (i : ℕ) (d : NoiseTerm) → i < length l → Accepted n rows r (noise.itemsOf l) → Accepted n rows r (sides (getD l i d))
-unfolding noise.itemsOf
+pub sides-accepted-at : {n rows r : ℕ} (l : List NoiseTerm) (i : ℕ) (d : NoiseTerm) → i < length l → Accepted n rows r (noise.sidesOf l) → Accepted n rows r (sides (getD l i d))
+unfolding noise.sidesOf
 sides-accepted-at l i d h k = accepted-at sides l i d h k
 
 -- ---- the loops: f t are the contributions of the term t, and Ok are the lists of n terms that the arrays have

@@ -8,11 +8,11 @@ use Rattle.complex.specs.declared.Complex.{Complex}
 use Rattle.rows.specs.Floats.{floats}
 use Rattle.rows.specs.Placing.{rowIn}
 use Rattle.rows.specs.Calls.{checkedRow}
-use Rattle.noise_sets.specs.Pairs.{heldBy, validSet, itemsOf}
+use Rattle.noise_sets.specs.Pairs.{heldBy, validSet, sidesOf}
 use Rattle.noise.specs.declared.pauli_noise_operator.PauliLindbladNoiseOperator.{PauliLindbladNoiseOperator}
 use Rattle.contributions.specs.TermContributions.{noiseContributions}
 
 unfoldable pub noiseRow : PauliLindbladNoiseOperator → ℕ → ℕ → Said (List (ℕ × Complex))
 noiseRow s n r =
     cond (not (validSet (s .set))) (refuses 0 [])
-    (checkedRow n (2 ^ n * 2 ^ n) r (itemsOf (heldBy (s .set))) (rowIn floats true (noiseContributions n r (heldBy (s .set)))))
+    (checkedRow n (2 ^ n * 2 ^ n) r (sidesOf (heldBy (s .set))) (rowIn floats true (noiseContributions n r (heldBy (s .set)))))

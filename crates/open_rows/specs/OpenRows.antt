@@ -14,12 +14,12 @@ use Rattle.noise_sets.specs.declared.NoiseTerm.{NoiseTerm}
 use Rattle.hamiltonians.specs.Reals.{hamiltonianTerms}
 use Rattle.contributions.specs.TermContributions.{commutatorContributions, noiseContributions}
 use Rattle.open_system.specs.declared.PauliLindbladOpenSystem.{PauliLindbladOpenSystem}
-use Rattle.outside_sites.specs.SystemItems.{itemsOf}
+use Rattle.outside_sites.specs.SystemItems.{systemItems}
 use Rattle.open_system.specs.Grouping.{validSystem}
 
 -- row r of the terms, after number 0
 unfoldable pub systemRowOf : ℕ → ℕ → List Term → List NoiseTerm → Said (List (ℕ × Complex))
-systemRowOf n r h w = checkedRow n (2 ^ n * 2 ^ n) r (itemsOf h w) (openRowIn floats (commutatorContributions n r h) (noiseContributions n r w))
+systemRowOf n r h w = checkedRow n (2 ^ n * 2 ^ n) r (systemItems h w) (openRowIn floats (commutatorContributions n r h) (noiseContributions n r w))
 
 unfoldable pub systemRow : PauliLindbladOpenSystem → ℕ → ℕ → Said (List (ℕ × Complex))
 systemRow s n r = cond (not (validSystem s)) (refuses 0 []) (systemRowOf n r (hamiltonianTerms (s .system)) (pairs.heldBy (s .noise .set)))

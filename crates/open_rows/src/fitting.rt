@@ -15,7 +15,7 @@ ghost use Rattle.noise_sets.specs.declared.NoiseTerm.{NoiseTerm};
 ghost use Rattle.term_sets.specs.Complexes.{itemsOf};
 ghost use Rattle.noise_sets.specs.Pairs as noise_rows;
 ghost use Rattle.term_sets.specs.declared.Term.{Term};
-ghost use Rattle.outside_sites.specs.SystemItems as system_rows;
+ghost use Rattle.outside_sites.specs.SystemItems.{systemItems};
 use items::masks::MASK_SIZE;
 use row_entries::size_of;
 use terms::MOST_TERMS;
@@ -43,7 +43,7 @@ pub(crate) fn pairs_fit(
     spins: u32,
 ) -> bool
     requires { ⌜ (n ≤ mostTerms) × (spins ≤ mostSpins) ⌝ }
-    ensures { λ r. ⌜ (r ≡ true → (w : List NoiseTerm) → each (λ p qs. valid p) (noise_rows.itemsOf w) ≡ true → length w ≡ n → take n (now (lefts .entry)) ≡ map (λ t. masksOf (t .left)) w → take n (now (rights .entry)) ≡ map (λ t. masksOf (t .right)) w → outside spins (noise_rows.itemsOf w) ≡ []) ⌝ }
+    ensures { λ r. ⌜ (r ≡ true → (w : List NoiseTerm) → each (λ p qs. valid p) (noise_rows.sidesOf w) ≡ true → length w ≡ n → take n (now (lefts .entry)) ≡ map (λ t. masksOf (t .left)) w → take n (now (rights .entry)) ≡ map (λ t. masksOf (t .right)) w → outside spins (noise_rows.sidesOf w) ≡ []) ⌝ }
 {
     fits(lefts, n, spins) && fits(rights, n, spins)
 }
@@ -58,7 +58,7 @@ pub(crate) fn system_fits(
     spins: u32,
 ) -> bool
     requires { ⌜ (m ≤ mostTerms) × (n ≤ mostTerms) × (spins ≤ mostSpins) ⌝ }
-    ensures { λ r. ⌜ (r ≡ true → (h : List Term) (w : List NoiseTerm) → each (λ p qs. valid p) (itemsOf h) ≡ true → each (λ p qs. valid p) (noise_rows.itemsOf w) ≡ true → length h ≡ m → take m (now (masks .entry)) ≡ map (λ t. masksOf (t .items)) h → length w ≡ n → take n (now (lefts .entry)) ≡ map (λ t. masksOf (t .left)) w → take n (now (rights .entry)) ≡ map (λ t. masksOf (t .right)) w → outside spins (system_rows.itemsOf h w) ≡ []) ⌝ }
+    ensures { λ r. ⌜ (r ≡ true → (h : List Term) (w : List NoiseTerm) → each (λ p qs. valid p) (itemsOf h) ≡ true → each (λ p qs. valid p) (noise_rows.sidesOf w) ≡ true → length h ≡ m → take m (now (masks .entry)) ≡ map (λ t. masksOf (t .items)) h → length w ≡ n → take n (now (lefts .entry)) ≡ map (λ t. masksOf (t .left)) w → take n (now (rights .entry)) ≡ map (λ t. masksOf (t .right)) w → outside spins (systemItems h w) ≡ []) ⌝ }
 {
     fits(masks, m, spins) && pairs_fit(lefts, rights, n, spins)
 }

@@ -13,7 +13,7 @@ ghost use Rattle.noise_sets.specs.declared.NoiseTerm.{NoiseTerm};
 ghost use Rattle.outside_sites.specs.Accepted.{Accepted};
 ghost use Rattle.open_rows.specs.Masked.{MaskedTerms, MaskedPairs};
 ghost use Rattle.contributions.specs.TermContributions.{commutatorContributions, noiseContributions};
-ghost use Rattle.outside_sites.specs.SystemItems.{itemsOf};
+ghost use Rattle.outside_sites.specs.SystemItems.{systemItems};
 ghost use Rattle.open_rows.specs.OpenRows.{systemRow};
 
 mod fitting;
@@ -51,7 +51,7 @@ fn delivered(
     out_im: &mut [f64],
 ) -> Delivery
     requires { ⌜ (m ≤ mostTerms) × (n ≤ mostTerms) × (spins ≤ mostSpins) ⌝ }
-    ensures { λ r. ⌜ ((h : List Term) (w : List NoiseTerm) → MaskedTerms (now (masks .entry)) (now (parts .entry)) m h → MaskedPairs (now (lefts .entry)) (now (rights .entry)) (now (res .entry)) (now (ims .entry)) n w → Accepted spins (2 ^ spins * 2 ^ spins) row (itemsOf h w) → RowCall (gives (openRowIn floats (commutatorContributions spins row h) (noiseContributions spins row w))) (saidDelivery r) (now («out_columns» .entry)) (now («out_columns» .exit)) (now («out_re» .entry)) (now («out_re» .exit)) (now («out_im» .entry)) (now («out_im» .exit))) ⌝ }
+    ensures { λ r. ⌜ ((h : List Term) (w : List NoiseTerm) → MaskedTerms (now (masks .entry)) (now (parts .entry)) m h → MaskedPairs (now (lefts .entry)) (now (rights .entry)) (now (res .entry)) (now (ims .entry)) n w → Accepted spins (2 ^ spins * 2 ^ spins) row (systemItems h w) → RowCall (gives (openRowIn floats (commutatorContributions spins row h) (noiseContributions spins row w))) (saidDelivery r) (now («out_columns» .entry)) (now («out_columns» .exit)) (now («out_re» .entry)) (now («out_re» .exit)) (now («out_im» .entry)) (now («out_im» .exit))) ⌝ }
 {
     let mut c_columns = [0u64; 320];
     let mut c_re = [0.0f64; 320];

@@ -12,7 +12,7 @@ ghost use Rattle.rows.specs.Calls.{RowCall};
 ghost use Rattle.noise_sets.specs.declared.NoiseTerm.{NoiseTerm};
 ghost use Rattle.outside_sites.specs.Accepted.{Accepted};
 ghost use Rattle.open_rows.specs.Masked.{MaskedPairs};
-ghost use Rattle.noise_sets.specs.Pairs.{itemsOf};
+ghost use Rattle.noise_sets.specs.Pairs.{sidesOf};
 ghost use Rattle.contributions.specs.TermContributions.{noiseContributions};
 ghost use Rattle.open_rows.specs.NoiseRows.{noiseRow};
 use crate::fitting::pairs_fit;
@@ -42,7 +42,7 @@ fn deliver_noise(
     out_im: &mut [f64],
 ) -> Delivery
     requires { ⌜ (n ≤ mostTerms) × (spins ≤ mostSpins) ⌝ }
-    ensures { λ r. ⌜ ((w : List NoiseTerm) → MaskedPairs (now (lefts .entry)) (now (rights .entry)) (now (res .entry)) (now (ims .entry)) n w → Accepted spins (2 ^ spins * 2 ^ spins) row (itemsOf w) → RowCall (gives (rowIn floats true (noiseContributions spins row w))) (saidDelivery r) (now («out_columns» .entry)) (now («out_columns» .exit)) (now («out_re» .entry)) (now («out_re» .exit)) (now («out_im» .entry)) (now («out_im» .exit))) ⌝ }
+    ensures { λ r. ⌜ ((w : List NoiseTerm) → MaskedPairs (now (lefts .entry)) (now (rights .entry)) (now (res .entry)) (now (ims .entry)) n w → Accepted spins (2 ^ spins * 2 ^ spins) row (sidesOf w) → RowCall (gives (rowIn floats true (noiseContributions spins row w))) (saidDelivery r) (now («out_columns» .entry)) (now («out_columns» .exit)) (now («out_re» .entry)) (now («out_re» .exit)) (now («out_im» .entry)) (now («out_im» .exit))) ⌝ }
 {
     let mut columns = [0u64; 320];
     let mut re = [0.0f64; 320];

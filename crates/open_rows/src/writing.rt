@@ -57,7 +57,7 @@ pub(crate) fn write_noise(
     im: &mut [f64; 320],
 ) -> usize
     requires { ⌜ (n ≤ mostTerms) × (spins ≤ mostSpins) ⌝ }
-    ensures { λ r. ⌜ (r ≡ 3 * n) × (Long (now (columns .entry)) (now (re .entry)) (now (im .entry)) → (l : List NoiseTerm) → MaskedPairs (now (lefts .entry)) (now (rights .entry)) (now (res .entry)) (now (ims .entry)) n l → Accepted spins (2 ^ spins * 2 ^ spins) row (noise_rows.itemsOf l) → entries (now (columns .exit)) (now (re .exit)) (now (im .exit)) r ≡ noiseContributions spins row l) ⌝ }
+    ensures { λ r. ⌜ (r ≡ 3 * n) × (Long (now (columns .entry)) (now (re .entry)) (now (im .entry)) → (l : List NoiseTerm) → MaskedPairs (now (lefts .entry)) (now (rights .entry)) (now (res .entry)) (now (ims .entry)) n l → Accepted spins (2 ^ spins * 2 ^ spins) row (noise_rows.sidesOf l) → entries (now (columns .exit)) (now (re .exit)) (now (im .exit)) r ≡ noiseContributions spins row l) ⌝ }
 {
     let mut i = 0;
     while i < n {

@@ -1,5 +1,6 @@
--- The rows of operators and Hamiltonians. Document 01, `Rows`: "Operator row: sum of the terms' matrix entries; zero sums kept.
--- Commutator row: the entries of -i(Hρ - ρH); each term gives first its left half, then its right; zero sums are absent."
+-- The rows of operators and Hamiltonians. Document 01, `Rows`: "Operator row (`PauliOperator` and Hamiltonian): sum of the terms' matrix
+-- entries; zero sums kept." "Commutator row (the same two): the entries of -i(Hρ - ρH); each term gives first its left half, then its
+-- right; zero sums are absent."
 use mathlib.Core.Bool.{true, false, not, cond}
 use mathlib.Core.List.{List, []}
 use Prim.Native.Nat.{ℕ, _*_, _^_}

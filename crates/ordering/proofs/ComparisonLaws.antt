@@ -123,14 +123,6 @@ lists-antisymmetric (a ∷ x) [] = refl
 lists-antisymmetric (a ∷ x) (b ∷ y) =
     ap₂ andThen (numbers-antisymmetric a b) (lists-antisymmetric x y) ∙ sym (then-opposite (compareNumbers a b) (compareLists x y))
 
-pub lists-equal-only : (x y : List ℕ) → compareLists x y ≡ equal → x ≡ y
-unfolding compareLists
-lists-equal-only [] [] e = refl
-lists-equal-only [] (b ∷ y) e = impossible (cc)
-lists-equal-only (a ∷ x) [] e = impossible (cc)
-lists-equal-only (a ∷ x) (b ∷ y) e =
-    ap₂ _∷_ (numbers-equal-only a b (then-left (compareNumbers a b) (compareLists x y) e)) (lists-equal-only x y (then-right (compareNumbers a b) (compareLists x y) e))
-
 -- a first number below decides; below or equal, the rest may
 first-less : (a b : ℕ) (o : Order) → andThen (compareNumbers a b) o ≡ less → (a < b) ⊎ ((a ≡ b) × (o ≡ less))
 first-less a b o e =

@@ -5,7 +5,7 @@ use native.Mathlib.Nat.{le-of-suc-le-suc, not-suc-le-zero}
 use native.Mathlib.Omega.{arith}
 use mathlib.Core.Path.{_≡_, refl, sym, _∙_, subst}
 use mathlib.Core.Bool.{Bool, true, not, _&&_}
-use mathlib.Core.List.{List, [], _∷_, _++_, map}
+use mathlib.Core.List.{List, [], _∷_, _++_}
 use lib.ListN.{length, take, getD, length-take}
 use lib.Seq.{getD-take}
 use Rattle.letters.proofs.TestLaws.{and-left, and-right}
@@ -15,6 +15,7 @@ use Rattle.items.specs.declared.Items.{Items}
 use Rattle.terms.specs.Keyed.{each, concatMap}
 use Rattle.terms.specs.Setting.{mostTerms}
 use Rattle.terms.proofs.KeyedLaws.{each-cons, each-head, each-tail, concatMap-cons}
+use Rattle.terms.proofs.EachLaws.{each-results}
 use Rattle.rows.specs.Calls.{outside}
 use Rattle.row_entries.proofs.EntryLaws.{Within}
 use Rattle.hamiltonians.specs.Reals as reals
@@ -92,8 +93,8 @@ module _ {n rows r : ℕ} where
   product-accepted t count d whole few h k = accepted-place product t count d whole few h (subst (Accepted n rows r) (sym (products-are (take count t))) k)
 
   pub sides-accepted : (t : List NoiseTerm) (count : ℕ) {m i : ℕ} (d : NoiseTerm) → length t ≡ mostTerms → m ≡ min count mostTerms → i < m
-      → Accepted n rows r (pairs.itemsOf (take count t)) → Accepted n rows r (sides (getD t i d))
-  unfolding pairs.itemsOf
+      → Accepted n rows r (pairs.sidesOf (take count t)) → Accepted n rows r (sides (getD t i d))
+  unfolding pairs.sidesOf
   sides-accepted t count d whole few h k = accepted-place sides t count d whole few h k
 
 -- ---- the products of valid sets
@@ -102,18 +103,13 @@ pub all-both : (a b : List Items) → AllValid a → AllValid b → AllValid (a 
 all-both [] b e f = f
 all-both (p ∷ a) b e f = each-cons (λ p qs. valid p) p (a ++ b) (each-head (λ p qs. valid p) p a e) (all-both a b (each-tail (λ p qs. valid p) p a e) f)
 
--- a test of what f makes of each element
-each-map : {A B : Type 0} (f : A → B) (test : B → Bool) (l : List A) → each (λ x xs. test (f x)) l ≡ true → each (λ y ys. test y) (map f l) ≡ true
-unfolding each
-each-map f test [] e = refl
-each-map f test (x ∷ l) e = each-cons (λ y ys. test y) (f x) (map f l) (each-head (λ x xs. test (f x)) x l e) (each-map f test l (each-tail (λ x xs. test (f x)) x l e))
-
 pub operator-valid : (zeros : Bool) (s : TermSet) → complexes.validSet zeros s ≡ true → AllValid (itemsOf (complexes.heldBy s))
-operator-valid zeros s e = each-map (λ (t : Term). t .items) valid (complexes.heldBy s) (set-laws.valid-products zeros s e)
+operator-valid zeros s e = each-results (λ (t : Term) ts. valid (t .items)) (λ p ps. valid p) (λ t. t .items) (λ t ts h. h) (complexes.heldBy s) (set-laws.valid-products zeros s e)
 
 pub hamiltonian-valid : (h : PauliHamiltonian) → reals.validSet h ≡ true → AllValid (itemsOf (hamiltonianTerms h))
 hamiltonian-valid h e =
-    each-map (λ (t : Term). t .items) valid (hamiltonianTerms h) (each-map reals.complexTerm (λ t. valid (t .items)) (reals.heldBy h) (real-laws.valid-products h e))
+    each-results (λ (t : Term) ts. valid (t .items)) (λ p ps. valid p) (λ t. t .items) (λ t ts h. h) (hamiltonianTerms h)
+    (each-results (λ t ts. valid (t .items)) (λ (t : Term) ts. valid (t .items)) reals.complexTerm (λ t ts h. h) (reals.heldBy h) (real-laws.valid-products h e))
 
 -- both sides of noise terms with good keys
 sides-valid : (l : List NoiseTerm) → each (λ t ts. pairs.goodKey (pair-laws.keyOf t)) l ≡ true → AllValid (concatMap sides l)
@@ -126,6 +122,6 @@ sides-valid (t ∷ l) e =
     (each-cons (λ p qs. valid p) (t .right) (concatMap sides l) (and-right (valid (t .left)) (valid (t .right)) both)
     (sides-valid l (each-tail (λ t ts. pairs.goodKey (pair-laws.keyOf t)) t l e)))
 
-pub noise-valid : (s : NoiseSet) → pairs.validSet s ≡ true → AllValid (pairs.itemsOf (pairs.heldBy s))
-unfolding pairs.itemsOf
+pub noise-valid : (s : NoiseSet) → pairs.validSet s ≡ true → AllValid (pairs.sidesOf (pairs.heldBy s))
+unfolding pairs.sidesOf
 noise-valid s e = sides-valid (pairs.heldBy s) (pair-laws.valid-keys s e)

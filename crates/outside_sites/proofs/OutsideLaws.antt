@@ -120,13 +120,13 @@ module _ {n count m : ℕ} {t : List Term} {i : ℕ} (s : Looked product n count
 -- ---- the sides of a noise set's terms: j and k are the reaches of the left and the right side at the place i
 
 module _ {n count m : ℕ} {t : List NoiseTerm} {i : ℕ} (s : Looked sides n count m t i) where
-  pub left-found : (d : NoiseTerm) {j : ℕ} → i < m → j ≡ reach (getD t i d .left) → n < j → (j - 1) ∷ [] ≡ outside n (noise.itemsOf (take count t))
-  unfolding noise.itemsOf
+  pub left-found : (d : NoiseTerm) {j : ℕ} → i < m → j ≡ reach (getD t i d .left) → n < j → (j - 1) ∷ [] ≡ outside n (noise.sidesOf (take count t))
+  unfolding noise.sidesOf
   left-found d h e o = looked-found s d h (first-outside n (getD t i d .left) (getD t i d .right ∷ []) e o)
 
   pub right-found : (d : NoiseTerm) {j k : ℕ} → i < m → j ≡ reach (getD t i d .left) → j ≤ n → k ≡ reach (getD t i d .right) → n < k
-      → (k - 1) ∷ [] ≡ outside n (noise.itemsOf (take count t))
-  unfolding noise.itemsOf
+      → (k - 1) ∷ [] ≡ outside n (noise.sidesOf (take count t))
+  unfolding noise.sidesOf
   right-found d h e o f u =
       let x = getD t i d in
       looked-found s d h (first-inside n (x .left) (x .right ∷ []) e o ∙ first-outside n (x .right) [] f u)
@@ -136,6 +136,6 @@ module _ {n count m : ℕ} {t : List NoiseTerm} {i : ℕ} (s : Looked sides n co
       let x = getD t i d in
       looked-more s d h (first-inside n (x .left) (x .right ∷ []) e o ∙ first-inside n (x .right) [] f u ∙ outside-none n)
 
-  pub sides-done : m ≤ i → [] ≡ outside n (noise.itemsOf (take count t))
-  unfolding noise.itemsOf
+  pub sides-done : m ≤ i → [] ≡ outside n (noise.sidesOf (take count t))
+  unfolding noise.sidesOf
   sides-done h = looked-done s h

@@ -7,5 +7,5 @@ use Rattle.term_sets.specs.Complexes as operators
 use Rattle.noise_sets.specs.Pairs as noise
 
 -- the products of terms, Hamiltonian before noise, left side first
-abbrev pub itemsOf : List Term → List NoiseTerm → List Items
-itemsOf h w = operators.itemsOf h ++ noise.itemsOf w
+abbrev pub systemItems : List Term → List NoiseTerm → List Items
+systemItems h w = operators.itemsOf h ++ noise.sidesOf w

@@ -5,7 +5,7 @@ ghost use Rattle.rows.specs.Calls.{outside};
 ghost use Rattle.term_sets.specs.Complexes as complexes;
 ghost use Rattle.term_sets.specs.Complexes.{itemsOf};
 ghost use Rattle.noise_sets.specs.Pairs as pairs;
-ghost use Rattle.outside_sites.specs.SystemItems as system_rows;
+ghost use Rattle.outside_sites.specs.SystemItems.{systemItems};
 use items::reach_of;
 use noise_sets::NoiseSet;
 use refusal::Carried;
@@ -31,7 +31,7 @@ pub fn of_operator(s: TermSet, spins: u32) -> Carried
 
 // Of a noise set's terms, left side first.
 pub fn of_noise(s: NoiseSet, spins: u32) -> Carried
-    ensures { λ r. ⌜ carried r ≡ outside spins (pairs.itemsOf (pairs.heldBy s)) ⌝ }
+    ensures { λ r. ⌜ carried r ≡ outside spins (pairs.sidesOf (pairs.heldBy s)) ⌝ }
 {
     let n = held_count(s.count);
     let mut i = 0;
@@ -52,7 +52,7 @@ pub fn of_noise(s: NoiseSet, spins: u32) -> Carried
 
 // Of both parts of a system, the Hamiltonian before the noise.
 pub fn outside_site(h: TermSet, n: NoiseSet, spins: u32) -> Carried
-    ensures { λ r. ⌜ carried r ≡ outside spins (system_rows.itemsOf (complexes.heldBy h) (pairs.heldBy n)) ⌝ }
+    ensures { λ r. ⌜ carried r ≡ outside spins (systemItems (complexes.heldBy h) (pairs.heldBy n)) ⌝ }
 {
     match of_operator(h, spins) {
         Carried::Site(site) => Carried::Site(site),

@@ -25,7 +25,7 @@ pub(crate) enum Change {
     Convert(Kind),
 }
 
-// The power of i that a letter gives.
+// The power of i that a letter gives. A letter below 4 is not refused: the last arm is never taken.
 fn letter_power(change: Change, letter: u8) -> u8
     requires { ⌜ letter < 4 ⌝ }
     ensures { λ r. ⌜ r ≡ powerOf (changed change letter) ⌝ }

@@ -4,7 +4,8 @@ use mathlib.Core.Path.{_≡_, refl, sym, ap, ap₂, _∙_, subst}
 use mathlib.Core.Bool.{Bool, true, false, not, cond}
 use mathlib.Core.List.{List, [], _∷_}
 use mathlib.Core.Logic.{_⊎_, inl, inr, ⊎-elim}
-use Prim.Native.Nat.{ℕ, suc, _+_, _-_, _%_, _^_, _≤_, _<_}
+use Prim.Native.Nat.{ℕ, suc, _+_, _-_, _%_, _^_, _≤_, _<_, max}
+use native.Mathlib.Nat.{le-max-left, le-max-right, max-le}
 use native.Mathlib.Decide.{decLt}
 use native.Mathlib.Omega.{arith}
 use lib.Dec.{ltb, leb, eqb}
@@ -22,14 +23,13 @@ use Rattle.letters.proofs.TestLaws.{first-before}
 use Rattle.letters.proofs.TableLaws.{closed, converts}
 use Rattle.letters.proofs.Letterings.{matrix-same, multiply-matrix, conjugate-matrix, convert-matrix, join-matrix, row-matrix, columnOf-lt, HasIdentity}
 use Rattle.letters.proofs.Codes.{conjugated-plain, converted-plain}
-use Rattle.items.specs.Lists.{at, larger}
+use Rattle.items.specs.Lists.{at}
 use Rattle.items.specs.Record.{highestSite, valid, letterAt, reach, reachOf, recordOf, update, emptyProduct}
 use Rattle.merging.specs.SiteAnswers.{setAnswer}
 use Rattle.merging.specs.ProductAnswers.{multiplyAnswer, firstOccupied, concatenateAnswer}
 use Rattle.phases.specs.Answers.{conjugateAnswer, convertAnswer}
 use Rattle.row_entries.specs.Answers.{rowAnswer, mostSpins}
 use Rattle.items.specs.declared.Items.{Items}
-use Rattle.items.proofs.ListLaws.{larger-left, larger-right, larger-most}
 use Rattle.items.proofs.RecordLaws.{letter-code, letter-beyond, letter-occupied, reach-most}
 use Rattle.items.proofs.Canonical.{fits-span, record-valid, record-letters, record-beyond}
 use Rattle.items.proofs.Cursor.{total-above}
@@ -76,12 +76,12 @@ module _ (p : Items) (s l : ℕ) where
     held : valid p ≡ true
     site : s ≤ highestSite
     letter : l ≤ highestLetter
-    items : recordOf (update (letterAt p) s l) (larger (reach p) (suc s)) ≡ x
+    items : recordOf (update (letterAt p) s l) (max (reach p) (suc s)) ≡ x
 
   set-to : (x : Items) → setAnswer p s l ≡ (done, x) → SetTo x
   unfolding setAnswer
   set-to x e =
-      let z₃ : Said Unit × Items = (done, recordOf (update (letterAt p) s l) (larger (reach p) (suc s))) in
+      let z₃ : Said Unit × Items = (done, recordOf (update (letterAt p) s l) (max (reach p) (suc s))) in
       let z₂ : Said Unit × Items = cond (ltb highestLetter l) (refuses 2 [], p) z₃ in
       let a = done-past (not (valid p)) 0 [] p x (cond (ltb highestSite s) (refuses 1 (s ∷ []), p) z₂) e in
       let b = done-past (ltb highestSite s) 1 (s ∷ []) p x z₂ (a .1) in
@@ -93,20 +93,20 @@ module _ (p : Items) (s l : ℕ) where
   set-theorem x e t =
       let a = set-to x e in
       ap (λ (y : Items). letterAt y t) (sym (a .items))
-      ∙ elim (decLt t (larger (reach p) (suc s))) [
-        | yes m ↦ record-letters (update (letterAt p) s l) (larger (reach p) (suc s)) t m
+      ∙ elim (decLt t (max (reach p) (suc s))) [
+        | yes m ↦ record-letters (update (letterAt p) s l) (max (reach p) (suc s)) t m
         | no m ↦
-            record-beyond (update (letterAt p) s l) (larger (reach p) (suc s)) t (omega arith)
-            ∙ sym (ap (λ (b : Bool). cond b l (letterAt p t)) (ne-eqb t s (λ q. omega (arith, larger-right (reach p) (suc s))))
-            ∙ letter-beyond p (a .held) t (omega (arith, larger-left (reach p) (suc s))))
+            record-beyond (update (letterAt p) s l) (max (reach p) (suc s)) t (omega arith)
+            ∙ sym (ap (λ (b : Bool). cond b l (letterAt p t)) (ne-eqb t s (λ q. omega (arith, le-max-right (reach p) (suc s))))
+            ∙ letter-beyond p (a .held) t (omega (arith, le-max-left (reach p) (suc s))))
       ]
 
   pub set-valid : (x : Items) → setAnswer p s l ≡ (done, x) → valid x ≡ true
   set-valid x e =
       let a = set-to x e in
       subst (λ (y : Items). valid y ≡ true) (a .items)
-      (codes-valid (update (letterAt p) s l) (larger (reach p) (suc s)) (λ t. go (eqb t s) (letterAt p t) (a .letter) (letter-code p (a .held) t))
-      (larger-most (reach p) (suc s) _ (reach-most p (a .held)) (omega (arith, a .site))))
+      (codes-valid (update (letterAt p) s l) (max (reach p) (suc s)) (λ t. go (eqb t s) (letterAt p t) (a .letter) (letter-code p (a .held) t))
+      (let last : suc s ≤ suc highestSite = omega (arith, a .site) in max-le (reach-most p (a .held)) last))
     where
       go : (b : Bool) (f : ℕ) → l ≤ highestLetter → f ≤ highestLetter → cond b l f ≤ highestLetter
       go true f h k = h
@@ -148,7 +148,7 @@ module _ (kind : Kind) (p q : Items) where
   -- the identity on both sides gives the identity, with no power
   both-free : valid p ≡ true → valid q ≡ true → (s : ℕ) → reachOf p q ≤ s → times M (letterAt p s) (letterAt q s) ≡ 0
   both-free v w s l =
-      ap₂ (times M) (letter-beyond p v s (omega (arith, larger-left (reach p) (reach q)))) (letter-beyond q w s (omega (arith, larger-right (reach p) (reach q))))
+      ap₂ (times M) (letter-beyond p v s (omega (arith, le-max-left (reach p) (reach q)))) (letter-beyond q w s (omega (arith, le-max-right (reach p) (reach q))))
       ∙ closed kind .times-zero 0 (omega arith)
 
   -- the matrix product of two products is i^k times the matrix of the answer
@@ -166,7 +166,7 @@ module _ (kind : Kind) (p q : Items) where
       let a = multiplied k x e in
       subst (λ (y : Items). valid y ≡ true) (a .items)
       (codes-valid productLetter (reachOf p q) (λ s. letter-most (times M (letterAt p s) (letterAt q s)))
-      (larger-most (reach p) (reach q) _ (reach-most p (a .left)) (reach-most q (a .right))))
+      (max-le (reach-most p (a .left)) (reach-most q (a .right))))
 
 -- ---- conjugation
 
@@ -277,7 +277,7 @@ module _ (p q : Items) where
       subst (λ (y : Items). valid y ≡ true) (a .items)
       (codes-valid joinLetter (reachOf p q)
       (λ s. ⊎-elim (λ z. omega (arith, letter-code q (a .right) s)) (λ z. omega (arith, letter-code p (a .left) s)) (a .apart s))
-      (larger-most (reach p) (reach q) _ (reach-most p (a .left)) (reach-most q (a .right))))
+      (max-le (reach-most p (a .left)) (reach-most q (a .right))))
 
   -- the matrix of the answer is the product of the two matrices, in either order
   module _ (x : Items) (e : concatenateAnswer p q ≡ (done, x)) (M : Letters) (I : HasIdentity M) (n : ℕ) (l : reachOf p q ≤ n) (r c : ℕ) where
@@ -286,7 +286,7 @@ module _ (p q : Items) where
         let a = joined x e in
         ap (λ (y : Items). letterAt y s) (sym (a .items))
         ∙ record-has M joinLetter (λ s. 0) (reachOf p q)
-        (λ s h. omega (arith, letter-beyond p (a .left) s (omega (arith, larger-left (reach p) (reach q))), letter-beyond q (a .right) s (omega (arith, larger-right (reach p) (reach q)))))
+        (λ s h. omega (arith, letter-beyond p (a .left) s (omega (arith, le-max-left (reach p) (reach q))), letter-beyond q (a .right) s (omega (arith, le-max-right (reach p) (reach q)))))
         (λ s h. refl) s
 
     pub concatenate-theorem : Σ (2 ^ n) (λ m. matrix M n (letterAt p) r m ⊗ matrix M n (letterAt q) m c) ≡ matrix M n (letterAt x) r c

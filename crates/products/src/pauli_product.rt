@@ -54,7 +54,7 @@ impl PauliProduct {
         ensures { λ r. ⌜ saidGot r ≡ getAnswer (self .items) site ⌝ }
     {
         let p = self.items;
-        merging::put::get(p, site)
+        merging::site::get(p, site)
     }
 
     // The product with a letter on a site; the identity frees it.
@@ -62,7 +62,7 @@ impl PauliProduct {
         ensures { λ r. ⌜ toldPauli r ≡ setAnswer (self .items) site letter ⌝ }
     {
         let p = self.items;
-        let a = merging::put::set_pauli(p, site, letter);
+        let a = merging::site::set_pauli(p, site, letter);
         let outcome = a.outcome;
         let items = a.items;
         PauliAnswer {

@@ -19,11 +19,11 @@ use Rattle.letters.proofs.Letterings.{columnOf-lt}
 use Rattle.items.specs.Record.{valid, letterAt, reach}
 use Rattle.row_entries.specs.Answers.{mostSpins}
 use Rattle.items.specs.Masks.{masksOf, flipOf, signOf}
-use Rattle.row_entries.specs.Walks.{walkOf}
+use Rattle.row_entries.specs.MaskEntries.{entryFromMasks}
 use Rattle.items.specs.declared.Items.{Items}
-use Rattle.row_entries.proofs.RowLaws.{row-small, few-spins}
-use Rattle.row_entries.proofs.WalkLaws.{turn-pauli, turn-decoherence, walk-power-lt, walk-inside}
-use Rattle.row_entries.specs.Entries.{entryOf, commutatorEntries, noiseEntries}
+use Rattle.row_entries.proofs.RowLaws.{few-spins}
+use Rattle.row_entries.proofs.MaskEntryLaws.{power-of-y-pauli, power-of-y-decoherence, from-masks-power-lt, from-masks-inside}
+use Rattle.row_entries.specs.Entries.{operatorEntry, commutatorEntries, noiseEntries}
 
 -- ---- bounds
 
@@ -33,13 +33,13 @@ pub record Small (n : ℕ) (x : ℕ × ℕ) : Type 0 where
   pub power : x .1 < 4
 
 -- every entry is small, whatever the masks
-pub entry-small : (M : Letters) (p n r : ℕ) → Small n (entryOf M p n r)
-unfolding entryOf
-entry-small M p n r = record { column = mod-lt _ (pow-pos n); power = walk-power-lt M p r }
+pub entry-small : (M : Letters) (p n r : ℕ) → Small n (operatorEntry M p n r)
+unfolding operatorEntry
+entry-small M p n r = record { column = mod-lt _ (pow-pos n); power = from-masks-power-lt M p r }
 
--- what the code finds: the end of the pass, its column within the matrix
-pub entry-found : (M : Letters) (p n r : ℕ) {d : ℕ} {w : ℕ × ℕ} → w ≡ walkOf M p r → d ≡ 2 ^ n → (w .0 % d, w .1) ≡ entryOf M p n r
-unfolding entryOf
+-- what the code finds, its column within the matrix
+pub entry-found : (M : Letters) (p n r : ℕ) {d : ℕ} {w : ℕ × ℕ} → w ≡ entryFromMasks M p r → d ≡ 2 ^ n → (w .0 % d, w .1) ≡ operatorEntry M p n r
+unfolding operatorEntry
 entry-found M p n r e s = rw (e, s)
 
 -- ---- pairs fit 64 bits
@@ -117,12 +117,12 @@ commutator-by-masks : (p n row : ℕ)
     (bitXor k f % 2 ^ n * 2 ^ n + l, (3 + 3 * (ones (bitAnd f s) % 4) + 2 * (ones (bitAnd k s) % 2)) % 4)
     ∷ (k * 2 ^ n + b, (1 + 3 * (ones (bitAnd f s) % 4) + 2 * (ones (bitAnd b s) % 2)) % 4) ∷ []
     ≡ commutatorEntries p n row
-unfolding commutatorEntries entryOf walkOf
+unfolding commutatorEntries operatorEntry entryFromMasks
 commutator-by-masks p n row =
     let k = row / 2 ^ n in
     let b = bitXor (row % 2 ^ n) (flipOf p) % 2 ^ n in
     let ys = ones (bitAnd (flipOf p) (signOf p)) in
-    rw turn-pauli
+    rw power-of-y-pauli
     (ap₂ (λ (x y : ℕ). (bitXor k (flipOf p) % 2 ^ n * 2 ^ n + row % 2 ^ n, x) ∷ (k * 2 ^ n + b, y) ∷ []) (y-power 3 ys (ones (bitAnd k (signOf p)))) (y-power 1 ys (ones (bitAnd b (signOf p)))))
 
 -- from the masks that the code reads, where d is the matrix's size
@@ -141,7 +141,7 @@ noise-by-masks : (p q n row : ℕ)
     ∷ (bitXor m (flipOf p) % 2 ^ n * 2 ^ n + l, 2 * (ones (bitAnd m s) % 2) % 4)
     ∷ (k * 2 ^ n + bitXor w (flipOf q) % 2 ^ n, 2 * (ones (bitAnd w s) % 2) % 4) ∷ []
     ≡ noiseEntries p q n row
-unfolding noiseEntries entryOf walkOf
+unfolding noiseEntries operatorEntry entryFromMasks
 noise-by-masks p q n row =
     let k = row / 2 ^ n in
     let l = row % 2 ^ n in
@@ -150,7 +150,7 @@ noise-by-masks p q n row =
     let x = ones (bitAnd (flipOf p) (signOf p)) in
     let y = ones (bitAnd (flipOf q) (signOf q)) in
     rw (
-      turn-decoherence,
+      power-of-y-decoherence,
       jump-power (bitAnd k (signOf p)) (bitAnd l (signOf q)) x y,
       half-power m (signOf p) (signOf q) y x,
       half-power w (signOf p) (signOf q) y x,
@@ -185,16 +185,16 @@ unfolding lettersOf
 decoherence-kind = of-kind Decoherence
 
 -- the entry of a row is that of the product's letters
-pub entry-inside : {M : Letters} → OfKind M → (p : Items) (n r : ℕ) → valid p ≡ true → reach p ≤ n → n ≤ mostSpins → r < 2 ^ n
-    → entryOf M (masksOf p) n r ≡ (columnOf M n (letterAt p) r, rowPower M n (letterAt p) r)
-unfolding entryOf
-entry-inside o p n r v s h l =
-    subst (λ M. entryOf M (masksOf p) n r ≡ (columnOf M n (letterAt p) r, rowPower M n (letterAt p) r)) (o .is) (go (o .kind))
+pub entry-inside : {M : Letters} → OfKind M → (p : Items) (n r : ℕ) → valid p ≡ true → reach p ≤ n → r < 2 ^ n
+    → operatorEntry M (masksOf p) n r ≡ (columnOf M n (letterAt p) r, rowPower M n (letterAt p) r)
+unfolding operatorEntry
+entry-inside o p n r v s l =
+    subst (λ M. operatorEntry M (masksOf p) n r ≡ (columnOf M n (letterAt p) r, rowPower M n (letterAt p) r)) (o .is) (go (o .kind))
   where
-    go : (kind : Kind) → entryOf (lettersOf kind) (masksOf p) n r ≡ (columnOf (lettersOf kind) n (letterAt p) r, rowPower (lettersOf kind) n (letterAt p) r)
+    go : (kind : Kind) → operatorEntry (lettersOf kind) (masksOf p) n r ≡ (columnOf (lettersOf kind) n (letterAt p) r, rowPower (lettersOf kind) n (letterAt p) r)
     go kind =
         rw (
-          walk-inside kind p v r (row-small n h refl l) n s l,
+          from-masks-inside kind p v r n s l,
           mod-eq-of-lt (columnOf-lt (lettersOf kind) n (letterAt p) r),
         ) refl
 
@@ -203,9 +203,9 @@ pub record Within (n : ℕ) (p : Items) : Type 0 where
   pub held : valid p ≡ true
   pub sites-below : reach p ≤ n
 
-module _ {M : Letters} (o : OfKind M) (n : ℕ) (h : n ≤ mostSpins) (p : Items) (w : Within n p) (r : ℕ) (l : r < 2 ^ n) where
-  pub column-inside : columnOf M n (letterAt p) r ≡ entryOf M (masksOf p) n r .0
-  column-inside = sym (ap (λ (x : ℕ × ℕ). x .0) (entry-inside o p n r (w .held) (w .sites-below) h l))
+module _ {M : Letters} (o : OfKind M) (n : ℕ) (p : Items) (w : Within n p) (r : ℕ) (l : r < 2 ^ n) where
+  pub column-inside : columnOf M n (letterAt p) r ≡ operatorEntry M (masksOf p) n r .0
+  column-inside = sym (ap (λ (x : ℕ × ℕ). x .0) (entry-inside o p n r (w .held) (w .sites-below) l))
 
-  pub power-inside : rowPower M n (letterAt p) r ≡ entryOf M (masksOf p) n r .1
-  power-inside = sym (ap (λ (x : ℕ × ℕ). x .1) (entry-inside o p n r (w .held) (w .sites-below) h l))
+  pub power-inside : rowPower M n (letterAt p) r ≡ operatorEntry M (masksOf p) n r .1
+  power-inside = sym (ap (λ (x : ℕ × ℕ). x .1) (entry-inside o p n r (w .held) (w .sites-below) l))

@@ -1,3 +1,3 @@
 pub mod EntryLaws
 pub mod RowLaws
-pub mod WalkLaws
+pub mod MaskEntryLaws

@@ -6,7 +6,7 @@ use mathlib.Core.List.{[], _∷_}
 use Prim.Native.Nat.{ℕ, _-_, _*_, _%_, _^_, _≤_, _<_, min}
 use native.Mathlib.Nat.{mod-eq-of-lt, one-mul, min-eq-left}
 use native.Mathlib.Omega.{arith}
-use lib.Pow.{pow-lt, pow-mono, pow-pos}
+use lib.Pow.{pow-lt, pow-pos}
 use borrow.Author.Tests.{lt-ltb, le-ltb, le-leb, lt-leb}
 use Rattle.refusal.specs.Refusals.{gives, refuses}
 use Rattle.letters.specs.Matrices.{Letters}
@@ -53,7 +53,3 @@ module _ (M : Letters) (p : Items) (n r : ℕ) where
   pub row-inside : {u q : ℕ} → valid p ≡ true → n ≤ mostSpins → u ≡ 2 ^ n → r < u → q ≡ reach p → q ≤ n → gives (columnOf M n (letterAt p) r, rowPower M n (letterAt p) r) ≡ rowAnswer M p n r
   unfolding rowAnswer
   row-inside v h e l f o = rw (v, le-ltb mostSpins n h, lt-leb (2 ^ n) r (omega arith), le-ltb n (reach p) (omega arith))
-
--- a row below 2^31
-pub row-small : {r u : ℕ} (n : ℕ) → n ≤ mostSpins → u ≡ 2 ^ n → r < u → r < 2 ^ 31
-row-small n h e l = let m : 2 ^ n ≤ 2 ^ 31 = pow-mono h in omega arith

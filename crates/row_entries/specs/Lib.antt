@@ -1,4 +1,4 @@
 pub mod Entries
-pub mod Walks
+pub mod MaskEntries
 pub mod Answers
 pub mod PairColumns

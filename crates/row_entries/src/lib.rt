@@ -6,8 +6,8 @@ ghost use lib.Count.{ones};
 ghost use lib.Bits.{bitAnd};
 ghost use Rattle.row_entries.specs.Answers.{mostSpins, saidRow, rowAnswer};
 ghost use Rattle.letters.specs.Matrices.{lettersOf};
-ghost use Rattle.row_entries.specs.Walks.{turnOf, walkOf};
-ghost use Rattle.row_entries.specs.Entries.{entryOf, commutatorEntries, noiseEntries};
+ghost use Rattle.row_entries.specs.MaskEntries.{powerOfY, entryFromMasks};
+ghost use Rattle.row_entries.specs.Entries.{operatorEntry, commutatorEntries, noiseEntries};
 use items::Items;
 use items::is_valid;
 use items::masks::MASK_SIZE;
@@ -36,15 +36,15 @@ pub fn size_of(spins: u32) -> u64
     }
 }
 
-// A column and a power of i, found from the masks.
-struct WalkEnd {
+// A column and a power of i.
+pub struct Entry {
     pub column: u64,
     pub power: u8,
 }
 
 // The power of i that stands in row 0 of Y.
-fn turn_of(kind: Kind) -> u32
-    ensures { λ r. ⌜ r ≡ turnOf (lettersOf kind) ⌝ }
+fn power_of_y(kind: Kind) -> u32
+    ensures { λ r. ⌜ r ≡ powerOfY (lettersOf kind) ⌝ }
 {
     match kind {
         Kind::Pauli => 3,
@@ -53,14 +53,14 @@ fn turn_of(kind: Kind) -> u32
 }
 
 // The column and the power of i of the entry of `row` that is not zero, of the product with these masks. Number 0 isn't judged.
-fn walked(kind: Kind, masks: u64, row: u64) -> WalkEnd
-    ensures { λ r. ⌜ _≡_ {A = ℕ × ℕ} (r .column, r .power) (walkOf (lettersOf kind) masks row) ⌝ }
+fn entry_from_masks(kind: Kind, masks: u64, row: u64) -> Entry
+    ensures { λ r. ⌜ _≡_ {A = ℕ × ℕ} (r .column, r .power) (entryFromMasks (lettersOf kind) masks row) ⌝ }
 {
     let flip = masks % MASK_SIZE;
     let sign = masks / MASK_SIZE;
-    let turn = turn_of(kind);
-    let power = turn * u64::count_ones(flip & sign) + 2 * u64::count_ones(row & sign);
-    WalkEnd {
+    let each_y = power_of_y(kind);
+    let power = each_y * u64::count_ones(flip & sign) + 2 * u64::count_ones(row & sign);
+    Entry {
         column: row ^ flip,
         power: (power % 4) as u8,
     }
@@ -83,14 +83,8 @@ pub fn row(kind: Kind, p: Items, spins: u32, row: u64) -> ItemsRow
     if (spins as usize) < reach {
         return ItemsRow::Refused(Refusal::SiteOutsideSpins(reach - 1));
     }
-    let w = walked(kind, masks(p), row);
-    ItemsRow::Entry(w.column, w.power)
-}
-
-// A column and a power of i.
-pub struct Entry {
-    pub column: u64,
-    pub power: u8,
+    let entry = entry_from_masks(kind, masks(p), row);
+    ItemsRow::Entry(entry.column, entry.power)
 }
 
 // What a term of a Hamiltonian contributes: its left half and its right half.
@@ -127,13 +121,13 @@ fn paired(size: u64, a: u64, b: u64, power: u8) -> Entry
 
 // The entry of the row of the product with these masks. Number 0 isn't judged again: the sets that products come from have been.
 pub fn operator_entry(kind: Kind, masks: u64, spins: u32, row: u64) -> Entry
-    ensures { λ r. ⌜ _≡_ {A = ℕ × ℕ} (r .column, r .power) (entryOf (lettersOf kind) masks (min spins mostSpins) row) ⌝ }
+    ensures { λ r. ⌜ _≡_ {A = ℕ × ℕ} (r .column, r .power) (operatorEntry (lettersOf kind) masks (min spins mostSpins) row) ⌝ }
 {
-    let w = walked(kind, masks, row);
-    let column = w.column % size_of(spins);
+    let entry = entry_from_masks(kind, masks, row);
+    let column = entry.column % size_of(spins);
     Entry {
         column,
-        power: w.power,
+        power: entry.power,
     }
 }
 

@@ -16,7 +16,7 @@ use Rattle.sorted_lists.specs.Sorting.{Places, sorted, upTo}
 use Rattle.rows.specs.Neighbours.{addedFrom, neighboursAdded}
 use Rattle.rows.specs.Buffers.{TwoParts, floatParts, Long, valueIn, entryIn, entriesIn, entries}
 use Rattle.sorted_lists.proofs.SortLaws.{map-sorted}
-use Rattle.rows.proofs.NeighbourLaws.{columnOf, added-same, added-next, added-last, added-sorted}
+use Rattle.rows.proofs.NeighbourLaws.{entryColumn, added-same, added-next, added-last, added-sorted}
 use Rattle.sorted_lists.proofs.RunLaws.{slice-none}
 
 -- a number is its two parts
@@ -194,6 +194,6 @@ unfolding rowIn
 collected-row {C} {N} A P cs xs ys places n zeros e =
     ap (keptBy (A .isZero) zeros)
     (ap (λ (l : List ℕ). neighboursAdded (A .sum) (map (entryIn P cs xs ys) l)) e
-    ∙ ap (neighboursAdded (A .sum)) (map-sorted columnOf (entryIn P cs xs ys) (upTo n))
-    ∙ ap (λ (l : List (ℕ × N)). neighboursAdded (A .sum) (sorted columnOf l)) (entriesIn-map P cs xs ys n)
+    ∙ ap (neighboursAdded (A .sum)) (map-sorted entryColumn (entryIn P cs xs ys) (upTo n))
+    ∙ ap (λ (l : List (ℕ × N)). neighboursAdded (A .sum) (sorted entryColumn l)) (entriesIn-map P cs xs ys n)
     ∙ added-sorted (A .sum) (entriesIn P cs xs ys n))

@@ -13,11 +13,11 @@ use Rattle.rows.proofs.PlacingLaws.{ascending-from, row-append}
 use Rattle.sorted_lists.proofs.SortLaws.{by-order, inserted-here, inserted-past, inserted-none, rising-inserted, sorted-rising, merged-sorted}
 
 -- the column of an entry
-abbrev pub columnOf : {N : Type 0} → ℕ × N → ℕ
-columnOf e = e .0
+abbrev pub entryColumn : {N : Type 0} → ℕ × N → ℕ
+entryColumn e = e .0
 
 -- strictly ascending is ascending
-ascending-rising : {N : Type 0} (b : ℕ) (l : List (ℕ × N)) → Ascending b l → Rising columnOf b l
+ascending-rising : {N : Type 0} (b : ℕ) (l : List (ℕ × N)) → Ascending b l → Rising entryColumn b l
 unfolding Ascending
 ascending-rising b [] r = tt
 ascending-rising b (x ∷ l) r = (r .0, ascending-rising (x .0) l (ascending-from (x .0) (suc (x .0)) l (omega arith) (r .1)))
@@ -63,7 +63,7 @@ module _ {N : Type 0} (sum : N → N → N) where
   -- ---- placing before, and among, what is added up
 
   -- below the first: in front
-  placed-first : (e x : ℕ × N) (l : List (ℕ × N)) → Rising columnOf (x .0) l → e .0 < x .0 → placed sum e (addedFrom sum x l) ≡ e ∷ addedFrom sum x l
+  placed-first : (e x : ℕ × N) (l : List (ℕ × N)) → Rising entryColumn (x .0) l → e .0 < x .0 → placed sum e (addedFrom sum x l) ≡ e ∷ addedFrom sum x l
   placed-first e x [] r h = rw (added-last x, placed-here e x [] h)
   placed-first e x (y ∷ l) r h =
       let further = placed-first e (x .0, sum (x .1) (y .1)) l in
@@ -72,38 +72,38 @@ module _ {N : Type 0} (sum : N → N → N) where
       (λ k. rw (added-next x y l (omega arith), placed-here e x (addedFrom sum y l) h))
 
   -- at or after the first: as if it were inserted before the adding
-  placed-among : (e x : ℕ × N) (l : List (ℕ × N)) → Rising columnOf (x .0) l → x .0 ≤ e .0 → placed sum e (addedFrom sum x l) ≡ addedFrom sum x (inserted columnOf e l)
+  placed-among : (e x : ℕ × N) (l : List (ℕ × N)) → Rising entryColumn (x .0) l → x .0 ≤ e .0 → placed sum e (addedFrom sum x l) ≡ addedFrom sum x (inserted entryColumn e l)
   placed-among e x [] r h =
       by-step (x .0) (e .0) h
-      (λ q. rw (added-last x, placed-same e x [] q, inserted-none columnOf e, added-same x e [] (sym q), added-last (x .0, sum (x .1) (e .1))))
-      (λ k. rw (added-last x, placed-past e x [] k, placed-none e, inserted-none columnOf e, added-next x e [] (omega arith), added-last e))
+      (λ q. rw (added-last x, placed-same e x [] q, inserted-none entryColumn e, added-same x e [] (sym q), added-last (x .0, sum (x .1) (e .1))))
+      (λ k. rw (added-last x, placed-past e x [] k, placed-none e, inserted-none entryColumn e, added-next x e [] (omega arith), added-last e))
   placed-among e x (y ∷ l) r h =
       let onto = placed-among e (x .0, sum (x .1) (y .1)) l in
       let after = placed-among e y l in
       by-order (e .0) (y .0)
       (λ ey. by-step (x .0) (e .0) h
-      (λ q. rw (added-next x y l (omega arith), placed-same e x (addedFrom sum y l) q, inserted-here columnOf e y l ey, added-same x e (y ∷ l) (sym q), added-next (x .0, sum (x .1) (e .1)) y l (omega arith)))
-      (λ k. rw (added-next x y l (omega arith), placed-past e x (addedFrom sum y l) k, placed-first e y l (r .1) ey, inserted-here columnOf e y l ey, added-next x e (y ∷ l) (omega arith), added-next e y l (omega arith))))
+      (λ q. rw (added-next x y l (omega arith), placed-same e x (addedFrom sum y l) q, inserted-here entryColumn e y l ey, added-same x e (y ∷ l) (sym q), added-next (x .0, sum (x .1) (e .1)) y l (omega arith)))
+      (λ k. rw (added-next x y l (omega arith), placed-past e x (addedFrom sum y l) k, placed-first e y l (r .1) ey, inserted-here entryColumn e y l ey, added-next x e (y ∷ l) (omega arith), added-next e y l (omega arith))))
       (λ ye. by-step (x .0) (y .0) (r .0)
-      (λ q. let r′ = rw (sym q) at (r .1) in rw (added-same x y l (sym q), inserted-past columnOf e y l ye, added-same x y (inserted columnOf e l) (sym q)) (onto r′ h))
-      (λ k. rw (added-next x y l (omega arith), placed-past e x (addedFrom sum y l) (omega arith), inserted-past columnOf e y l ye, added-next x y (inserted columnOf e l) (omega arith), after (r .1) ye)))
+      (λ q. let r′ = rw (sym q) at (r .1) in rw (added-same x y l (sym q), inserted-past entryColumn e y l ye, added-same x y (inserted entryColumn e l) (sym q)) (onto r′ h))
+      (λ k. rw (added-next x y l (omega arith), placed-past e x (addedFrom sum y l) (omega arith), inserted-past entryColumn e y l ye, added-next x y (inserted entryColumn e l) (omega arith), after (r .1) ye)))
 
-  placed-added : (e : ℕ × N) (l : List (ℕ × N)) → Rising columnOf 0 l → placed sum e (neighboursAdded sum l) ≡ neighboursAdded sum (inserted columnOf e l)
+  placed-added : (e : ℕ × N) (l : List (ℕ × N)) → Rising entryColumn 0 l → placed sum e (neighboursAdded sum l) ≡ neighboursAdded sum (inserted entryColumn e l)
   unfolding neighboursAdded
-  placed-added e [] r = rw (placed-none e, inserted-none columnOf e, added-last e)
+  placed-added e [] r = rw (placed-none e, inserted-none entryColumn e, added-last e)
   placed-added e (x ∷ l) r =
       by-order (e .0) (x .0)
-      (λ h. rw (placed-first e x l (r .1) h, inserted-here columnOf e x l h, added-next e x l (omega arith)))
-      (λ h. rw (placed-among e x l (r .1) h, inserted-past columnOf e x l h))
+      (λ h. rw (placed-first e x l (r .1) h, inserted-here entryColumn e x l h, added-next e x l (omega arith)))
+      (λ h. rw (placed-among e x l (r .1) h, inserted-past entryColumn e x l h))
 
-  placed-onto : (es s : List (ℕ × N)) → Rising columnOf 0 s → placeAll sum es (neighboursAdded sum s) ≡ neighboursAdded sum (sortedOnto columnOf es s)
+  placed-onto : (es s : List (ℕ × N)) → Rising entryColumn 0 s → placeAll sum es (neighboursAdded sum s) ≡ neighboursAdded sum (sortedOnto entryColumn es s)
   unfolding placeAll sortedOnto
   placed-onto [] s r = refl
   placed-onto (e ∷ es) s r =
-      ap (placeAll sum es) (placed-added e s r) ∙ placed-onto es (inserted columnOf e s) (rising-inserted columnOf 0 e s (omega arith) r)
+      ap (placeAll sum es) (placed-added e s r) ∙ placed-onto es (inserted entryColumn e s) (rising-inserted entryColumn 0 e s (omega arith) r)
 
   -- the row of contributions is what their sorted list adds up to
-  pub added-sorted : (l : List (ℕ × N)) → neighboursAdded sum (sorted columnOf l) ≡ rowOf sum l
+  pub added-sorted : (l : List (ℕ × N)) → neighboursAdded sum (sorted entryColumn l) ≡ rowOf sum l
   unfolding sorted neighboursAdded rowOf
   added-sorted l = sym (placed-onto l [] tt)
 
@@ -122,16 +122,16 @@ module _ {N : Type 0} (sum : N → N → N) where
   added-ascending b (x ∷ l) r = from-ascending x l (r .1)
 
   own-row : (l : List (ℕ × N)) → Ascending 0 l → rowOf sum l ≡ l
-  own-row l r = sym (added-sorted l) ∙ ap (neighboursAdded sum) (sorted-rising columnOf 0 l (ascending-rising 0 l r)) ∙ added-ascending 0 l r
+  own-row l r = sym (added-sorted l) ∙ ap (neighboursAdded sum) (sorted-rising entryColumn 0 l (ascending-rising 0 l r)) ∙ added-ascending 0 l r
 
   -- the entries of a row placed into another: both merged and added up, the other's first
-  pub placed-row : (a b : List (ℕ × N)) → Ascending 0 a → Ascending 0 b → placeAll sum b a ≡ neighboursAdded sum (merged columnOf a b)
+  pub placed-row : (a b : List (ℕ × N)) → Ascending 0 a → Ascending 0 b → placeAll sum b a ≡ neighboursAdded sum (merged entryColumn a b)
   unfolding rowOf
   placed-row a b ra rb =
-      let ia : sorted columnOf a ≡ a = sorted-rising columnOf 0 a (ascending-rising 0 a ra) in
-      let ib : sorted columnOf b ≡ b = sorted-rising columnOf 0 b (ascending-rising 0 b rb) in
+      let ia : sorted entryColumn a ≡ a = sorted-rising entryColumn 0 a (ascending-rising 0 a ra) in
+      let ib : sorted entryColumn b ≡ b = sorted-rising entryColumn 0 b (ascending-rising 0 b rb) in
       ap (placeAll sum b) (sym (own-row a ra))
       ∙ sym (row-append sum a b)
       ∙ sym (added-sorted (a ++ b))
-      ∙ ap (neighboursAdded sum) (sym (merged-sorted columnOf a b))
+      ∙ ap (neighboursAdded sum) (sym (merged-sorted entryColumn a b))
       ∙ rw (ia, ib)

@@ -17,7 +17,7 @@ use Rattle.rows.specs.Neighbours.{neighboursAdded}
 use Rattle.rows.specs.Buffers.{floatParts, Long, valueIn, entryIn, entries}
 use Rattle.sorted_lists.proofs.SortLaws.{map-merged}
 use Rattle.rows.proofs.PlacingLaws.{rowIn-ascending}
-use Rattle.rows.proofs.NeighbourLaws.{columnOf, placed-row}
+use Rattle.rows.proofs.NeighbourLaws.{entryColumn, placed-row}
 use Rattle.rows.proofs.ArrayLaws.{entries-none, entries-stored, entriesIn-map, entriesIn-more, length-entriesIn, long-stored}
 
 -- ---- the loop that appends
@@ -86,6 +86,6 @@ open-row cs xs ys p q places commutator noise together ds us vs es ws zs left ri
     let second : map E (drop p (upTo (p + q))) ≡ rowIn floats true noise =
     map-drop E p (upTo (p + q)) ∙ ap (drop p) all ∙ drop-at (rowIn floats false commutator) (rowIn floats true noise) p long in
     ap (λ (l : List ℕ). neighboursAdded (floats .sum) (map E l)) together
-    ∙ ap (neighboursAdded (floats .sum)) (map-merged columnOf E (take p (upTo (p + q))) (drop p (upTo (p + q))))
-    ∙ ap₂ (λ (l r : List (ℕ × Complex)). neighboursAdded (floats .sum) (merged columnOf l r)) first second
+    ∙ ap (neighboursAdded (floats .sum)) (map-merged entryColumn E (take p (upTo (p + q))) (drop p (upTo (p + q))))
+    ∙ ap₂ (λ (l r : List (ℕ × Complex)). neighboursAdded (floats .sum) (merged entryColumn l r)) first second
     ∙ sym (placed-row (floats .sum) (rowIn floats false commutator) (rowIn floats true noise) (rowIn-ascending floats false commutator) (rowIn-ascending floats true noise))

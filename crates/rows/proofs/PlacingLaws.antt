@@ -132,11 +132,6 @@ module _ {N : Type 0} (sum : N → N → N) where
       swap true false r = refl
       swap false b r = refl
 
-  -- a row has the columns of its contributions
-  pub row-columns : (c : ℕ) (es : List (ℕ × N)) → hasColumn c (rowOf sum es) ≡ hasColumn c es
-  unfolding hasColumn rowOf
-  row-columns c es = placeAll-columns c es []
-
   -- ---- the number at a column is the sum of its contributions from left to right
 
   -- one number more for the numbers of a column, which are one or none

@@ -19,7 +19,7 @@ unfoldable pub outside : ℕ → List Items → List ℕ
 outside n [] = []
 outside n (p ∷ ps) = let rest = outside n ps in cond (ltb n (reach p)) ((reach p - 1) ∷ []) rest
 
--- 8: "a term has a site at n or above: first such term, its highest site"
+-- 8: "a term has a site at n or above: first such term, Hamiltonian before noise, left side first, its highest site"
 unfoldable pub unlessOutside : {N : Type 0} → List ℕ → List (ℕ × N) → Said (List (ℕ × N))
 unlessOutside [] row = gives row
 unlessOutside (s ∷ ss) row = refuses 8 (s ∷ [])

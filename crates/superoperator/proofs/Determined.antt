@@ -12,17 +12,17 @@ use lib.Dec.{eqb}
 use Rattle.letters.specs.Gauss.{G, 𝟘, 𝟙, i⁺, i⁻, _⊕_, _⊗_}
 use Rattle.letters.specs.Matrices.{pauli, decoherence, lettersOf, matrix}
 use Rattle.letters.specs.declared.Kind.the-variants.{Pauli, Decoherence}
-use Rattle.letters.proofs.TestLaws.{and-true, and-left, and-right, every-intro}
+use Rattle.letters.proofs.TestLaws.{and-left, and-right, every-intro}
 use Rattle.letters.proofs.GaussLaws.{ring, ⊕-comm, ⊕-cancel, 𝟘-⊕, ⊗-𝟘, ⊗-assoc, ⊗-left-comm, ⊗-comm, ⊗-cancel, i⁻⊗i⁺}
-use Rattle.items.specs.Record.{letterAt, sameItems}
+use Rattle.items.specs.Record.{letterAt, sameItems, sameKey}
 use Rattle.items.specs.declared.Items.{Items}
-use Rattle.items.proofs.SameLaws.{same-self, same-equal}
+use Rattle.items.proofs.SameLaws.{same-self, same-equal, same-key-self, same-key-equal}
 use Rattle.terms.specs.Keyed.{each}
 use Rattle.terms.specs.Gaussian.{weighted}
 use Rattle.terms.proofs.KeyedLaws.{all-each}
 use Rattle.terms.proofs.SummedLaws.{summed-on, summed-same, summed-zero, summed-scale}
 use Rattle.master_equation.specs.Equation.{δ, 𝟚, commutator, dissipator}
-use Rattle.superoperator.specs.Systems.{Hamiltonian, Noise, samePair, entryOf, SameEntries, SameTerms, onSpins, pairOnSpins, Sound}
+use Rattle.superoperator.specs.Systems.{Hamiltonian, Noise, entryOf, SameEntries, SameTerms, onSpins, pairOnSpins, Sound}
 use Rattle.superoperator.proofs.InnerLaws.{inner, probe, probe-below, probe-add, probe-weighted}
 use Rattle.superoperator.proofs.Orthogonality.{dimension, 𝟚-cancel, dimension-cancel, cond-⊗, trace-full}
 use Rattle.superoperator.proofs.ShareLaws.{share, same-sums, shares-good, terms-from-shares, shares-from-terms}
@@ -30,15 +30,6 @@ use Rattle.superoperator.proofs.ProductLaws.{product-orthogonal, produc
 use Rattle.superoperator.proofs.ProbeLaws.{probe-commutator, probe-dissipator}
 
 -- ---- keys of noise
-
-pair-self : (k : Items × Items) → samePair k k ≡ true
-pair-self k = and-true (same-self (k .0)) (same-self (k .1))
-
-pair-equal : (x y : Items × Items) → samePair x y ≡ true → x ≡ y
-pair-equal x y e =
-    let left = same-equal (x .0) (y .0) (and-left (sameItems (x .0) (y .0)) (sameItems (x .1) (y .1)) e) in
-    let right = same-equal (x .1) (y .1) (and-right (sameItems (x .0) (y .0)) (sameItems (x .1) (y .1)) e) in
-    λ i. (left i, right i)
 
 left-on : (n : ℕ) (p : Items × Items) → pairOnSpins n p ≡ true → onSpins n (p .0) ≡ true
 unfolding pairOnSpins
@@ -106,7 +97,7 @@ module _ (n : ℕ) (p : Items × Items) (h : pairOnSpins n p ≡ true) where
       zero t x = simp ring
 
   -- a dissipator tells whether its pair is p
-  dissipator-tells : (q : Items × Items) → pairOnSpins n q ≡ true → probe n L R (dissipator n (letterAt (q .0)) (letterAt (q .1))) ≡ factor n ⊗ cond (samePair q p) 𝟙 𝟘
+  dissipator-tells : (q : Items × Items) → pairOnSpins n q ≡ true → probe n L R (dissipator n (letterAt (q .0)) (letterAt (q .1))) ≡ factor n ⊗ cond (sameKey q p) 𝟙 𝟘
   unfolding lettersOf
   dissipator-tells q g =
       let x = cond (sameItems (q .0) (p .0)) 𝟙 𝟘 in
@@ -122,20 +113,20 @@ module _ (n : ℕ) (p : Items × Items) (h : pairOnSpins n p ≡ true) where
       sort t d x y = simp ring
 
   -- so the entries tell the share of p
-  probe-noise : (ham : Hamiltonian) (w : Noise) → each (λ t ts. pairOnSpins n (t .0)) w ≡ true → probe n L R (entryOf n ham w) ≡ factor n ⊗ share samePair p w
+  probe-noise : (ham : Hamiltonian) (w : Noise) → each (λ t ts. pairOnSpins n (t .0)) w ≡ true → probe n L R (entryOf n ham w) ≡ factor n ⊗ share sameKey p w
   unfolding entryOf
   probe-noise ham w g =
       probe-add n L R (λ k l a b. weighted (λ q. commutator n (letterAt q) k l a b) ham) (λ k l a b. weighted (λ q. dissipator n (letterAt (q .0)) (letterAt (q .1)) k l a b) w)
       ∙ ap₂ _⊕_ (probe-weighted n L R (λ q. commutator n (letterAt q)) ham ∙ dropped) (probe-weighted n L R (λ q. dissipator n (letterAt (q .0)) (letterAt (q .1))) w ∙ told)
-      ∙ 𝟘-⊕ (factor n ⊗ share samePair p w)
+      ∙ 𝟘-⊕ (factor n ⊗ share sameKey p w)
     where
       dropped : weighted (λ q. probe n L R (commutator n (letterAt q))) ham ≡ 𝟘
       dropped =
           summed-same (λ (t : Items × G). t .1 ⊗ probe n L R (commutator n (letterAt (t .0)))) (λ (t : Items × G). 𝟘) ham (λ t. ap (λ u. t .1 ⊗ u) (commutator-drops (t .0)) ∙ ⊗-𝟘 (t .1))
           ∙ summed-zero ham
 
-      told : weighted (λ q. probe n L R (dissipator n (letterAt (q .0)) (letterAt (q .1)))) w ≡ factor n ⊗ share samePair p w
-      told = weighted-share samePair (pairOnSpins n) (factor n) p (λ q. probe n L R (dissipator n (letterAt (q .0)) (letterAt (q .1)))) dissipator-tells w g
+      told : weighted (λ q. probe n L R (dissipator n (letterAt (q .0)) (letterAt (q .1)))) w ≡ factor n ⊗ share sameKey p w
+      told = weighted-share sameKey (pairOnSpins n) (factor n) p (λ q. probe n L R (dissipator n (letterAt (q .0)) (letterAt (q .1)))) dissipator-tells w g
 
 -- ---- the Hamiltonian
 
@@ -180,15 +171,15 @@ module _ (n : ℕ) (p : Items) (h : onSpins n p ≡ true) where
 
 module _ (n : ℕ) (h : Hamiltonian) (w : Noise) (h′ : Hamiltonian) (w′ : Noise) (s : Sound n h w) (s′ : Sound n h′ w′) where
   -- equal shares of noise make equal sums, whatever the value of a pair
-  noise-sums : ((p : Items × Items) → share samePair p w ≡ share samePair p w′) → (φ : Items × Items → G) → weighted φ w ≡ weighted φ w′
-  noise-sums = same-sums samePair pair-self pair-equal w w′ (s .noise .different) (s′ .noise .different)
+  noise-sums : ((p : Items × Items) → share sameKey p w ≡ share sameKey p w′) → (φ : Items × Items → G) → weighted φ w ≡ weighted φ w′
+  noise-sums = same-sums sameKey same-key-self same-key-equal w w′ (s .noise .different) (s′ .noise .different)
 
   module _ (e : SameEntries n h w h′ w′) where
     -- each pair's share is the same
-    noise-shares : (p : Items × Items) → share samePair p w ≡ share samePair p w′
+    noise-shares : (p : Items × Items) → share sameKey p w ≡ share sameKey p w′
     noise-shares =
-        shares-good samePair pair-self pair-equal (pairOnSpins n) w w′ (s .noise .keys) (s′ .noise .keys)
-        (λ p g. factor-cancel n (share samePair p w) (share samePair p w′)
+        shares-good sameKey same-key-self same-key-equal (pairOnSpins n) w w′ (s .noise .keys) (s′ .noise .keys)
+        (λ p g. factor-cancel n (share sameKey p w) (share sameKey p w′)
         (sym (probe-noise n p g h w (s .noise .keys)) ∙ probe-below n (leftOf n p) (rightOf n p) (entryOf n h w) (entryOf n h′ w′) e ∙ probe-noise n p g h′ w′ (s′ .noise .keys)))
 
     -- so the commutators' parts are equal too
@@ -212,20 +203,20 @@ module _ (n : ℕ) (h : Hamiltonian) (w : Noise) (h′ : Hamiltonian) (w′ : No
         ∙ probe-hamiltonian n p g h′ (s′ .hamiltonian .keys))))
 
   -- systems with the same terms have the same entries, at every place
-  pub terms-determine : SameTerms sameItems h h′ → SameTerms samePair w w′ → (k l a b : ℕ) → entryOf n h w k l a b ≡ entryOf n h′ w′ k l a b
+  pub terms-determine : SameTerms sameItems h h′ → SameTerms sameKey w w′ → (k l a b : ℕ) → entryOf n h w k l a b ≡ entryOf n h′ w′ k l a b
   unfolding entryOf
   terms-determine th tw k l a b =
       ap₂ _⊕_
       (same-sums sameItems same-self same-equal h h′ (s .hamiltonian .different) (s′ .hamiltonian .different)
       (shares-from-terms sameItems same-self same-equal (onSpins n) h h′ (s .hamiltonian) (s′ .hamiltonian) th) (λ q. commutator n (letterAt q) k l a b))
-      (noise-sums (shares-from-terms samePair pair-self pair-equal (pairOnSpins n) w w′ (s .noise) (s′ .noise) tw) (λ q. dissipator n (letterAt (q .0)) (letterAt (q .1)) k l a b))
+      (noise-sums (shares-from-terms sameKey same-key-self same-key-equal (pairOnSpins n) w w′ (s .noise) (s′ .noise) tw) (λ q. dissipator n (letterAt (q .0)) (letterAt (q .1)) k l a b))
 
   -- two systems have the same entries exactly where they hold the same terms
-  pub entries-determine : SameEntries n h w h′ w′ ↔ (SameTerms sameItems h h′ × SameTerms samePair w w′)
+  pub entries-determine : SameEntries n h w h′ w′ ↔ (SameTerms sameItems h h′ × SameTerms sameKey w w′)
   entries-determine = (
     λ e. (
       terms-from-shares sameItems same-self same-equal (onSpins n) h h′ (s .hamiltonian) (s′ .hamiltonian) (hamiltonian-shares e),
-      terms-from-shares samePair pair-self pair-equal (pairOnSpins n) w w′ (s .noise) (s′ .noise) (noise-shares e),
+      terms-from-shares sameKey same-key-self same-key-equal (pairOnSpins n) w w′ (s .noise) (s′ .noise) (noise-shares e),
     ),
     λ t k l a b hk hl ha hb. terms-determine (t .0) (t .1) k l a b,
   )

@@ -7,7 +7,7 @@ use mathlib.Core.List.{List}
 use Prim.Native.Nat.{ℕ, _^_, _<_}
 use lib.Dec.{leb, eqb}
 use Rattle.letters.specs.Gauss.{G, 𝟘, _⊕_, eqG}
-use Rattle.items.specs.Record.{valid, letterAt, reach, sameItems}
+use Rattle.items.specs.Record.{valid, letterAt, reach, sameItems, sameKey}
 use Rattle.items.specs.declared.Items.{Items}
 use Rattle.terms.specs.Keyed.{has, each}
 use Rattle.terms.specs.Setting.{coefficientAt}
@@ -21,10 +21,6 @@ Hamiltonian = List (Items × G)
 -- the terms of noise, each a pair (L, R) of decoherence products with its coefficient
 abbrev pub Noise : Type 0
 Noise = List ((Items × Items) × G)
-
--- two pairs are the same
-abbrev pub samePair : Items × Items → Items × Items → Bool
-samePair x y = sameItems (x .0) (y .0) && sameItems (x .1) (y .1)
 
 -- the entry of -i (H ρ - ρ H) + Σ c (L ρ R† - 1/2 R† L ρ - 1/2 ρ R† L) at row (k, l) and column (a, b), in halves
 unfoldable pub entryOf : ℕ → Hamiltonian → Noise → ℕ → ℕ → ℕ → ℕ → G
@@ -58,4 +54,4 @@ pub record SoundTerms {K : Type 0} (same : K → K → Bool) (good : K → Bool)
 -- a system over n spins
 pub record Sound (n : ℕ) (h : Hamiltonian) (w : Noise) : Type 0 where
   pub hamiltonian : SoundTerms sameItems (onSpins n) h
-  pub noise : SoundTerms samePair (pairOnSpins n) w
+  pub noise : SoundTerms sameKey (pairOnSpins n) w

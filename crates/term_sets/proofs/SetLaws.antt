@@ -31,9 +31,6 @@ termSets =
       fills = filled-is;
     }
 
--- the count of the set that holds given terms, and its terms
-pub filled-count : (l : List Term) → filled l .count ≡ length l
-filled-count = laws.filled-count termSets
-
+-- the terms of the set that holds given terms
 pub held-from : (s : TermSet) (l : List Term) → s ≡ filled l → heldBy s ≡ l
 held-from = laws.held-from termSets

@@ -1,8 +1,7 @@
 // A set of terms with complex coefficients: the first `count` places hold terms, zero records stand past them.
 ghost use mathlib.Core.Path.{_≡_};
 ghost use mathlib.Core.List.{[], map};
-ghost use Prim.Native.Nat.{min, _+_};
-ghost use lib.ListN.{drop};
+ghost use Prim.Native.Nat.{min};
 ghost use Rattle.term_sets.specs.Complexes.{blank, filled, complexTerms, heldBy, validSet};
 ghost use Rattle.terms.specs.Setting.{mostTerms, keyed, coefficientAt};
 ghost use Rattle.terms.specs.Keyed.{firstAt, held};
@@ -83,12 +82,12 @@ pub fn held_count(count: usize) -> usize
     }
 }
 
-// The place of the first term with a key, from a place on; where there is none, the end of the held terms, or the place itself if it is past that.
-pub fn find_from(s: TermSet, from: usize, key: Items) -> usize
-    ensures { λ r. ⌜ r ≡ from + firstAt (keyed complexTerms key) (drop from (heldBy s)) ⌝ }
+// The place of the first term with a key; where there is none, the end of the held terms.
+pub fn find(s: TermSet, key: Items) -> usize
+    ensures { λ r. ⌜ r ≡ firstAt (keyed complexTerms key) (heldBy s) ⌝ }
 {
     let n = held_count(s.count);
-    let mut i = from;
+    let mut i: usize = 0;
     while i < n {
         let t = s.terms[i];
         let p = t.items;
@@ -105,7 +104,7 @@ pub fn coefficient_at(s: TermSet, key: Items) -> Complex
     ensures { λ r. ⌜ r ≡ coefficientAt complexTerms key (heldBy s) ⌝ }
 {
     let n = held_count(s.count);
-    let i = find_from(s, 0, key);
+    let i = find(s, key);
     if i < n {
         let t = s.terms[i];
         return t.coefficient;
@@ -118,7 +117,7 @@ pub fn was(s: TermSet, key: Items) -> SetAnswer
     ensures { λ r. ⌜ saidSet r ≡ gives (map (λ t. t .coefficient) (held (keyed complexTerms key) (heldBy s))) ⌝ }
 {
     let n = held_count(s.count);
-    let i = find_from(s, 0, key);
+    let i = find(s, key);
     if i < n {
         let t = s.terms[i];
         let c = t.coefficient;

@@ -41,14 +41,14 @@ fn good_coefficient(zeros: bool, c: Complex) -> bool
     !c.is_zero()
 }
 
-// Whether every held term is as a valid set holds it. Terms with different numbers have different keys, and good terms with one number
-// have one key.
+// Whether every held term is as a valid set holds it. Terms with different masks have different keys, and good terms with
+// the same masks have one key.
 pub(crate) fn all_good(zeros: bool, s: TermSet) -> bool
     requires { ⌜ s .count ≤ mostTerms ⌝ }
     ensures { λ r. ⌜ r ≡ each (goodTerm zeros) (heldBy s) ⌝ }
 {
     let n = s.count;
-    let mut numbers = [0u64; MOST_TERMS];
+    let mut masks = [0u64; MOST_TERMS];
     let mut marks = [0u8; 256];
     let mut i: usize = 0;
     while i < n {
@@ -63,10 +63,10 @@ pub(crate) fn all_good(zeros: bool, s: TermSet) -> bool
             return false;
         }
         let x = v.masks;
-        if !is_new_marked(&marks, &numbers, i, x) {
+        if !is_new_marked(&marks, &masks, i, x) {
             return false;
         }
-        numbers[i] = x;
+        masks[i] = x;
         let at = mark_of(x);
         marks[at] = 1;
         i += 1;

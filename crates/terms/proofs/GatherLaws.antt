@@ -5,13 +5,12 @@ use Prim.Native.Nat.{ℕ, _+_, _-_, _≤_, _<_}
 use native.Mathlib.Omega.{arith}
 use mathlib.Core.Path.{_≡_, sym, ap, _∙_}
 use mathlib.Core.List.{List, [], map}
-use lib.ListN.{length, take, getD, set, replicate, length-map, length-append, length-replicate, List·getD-map}
-use lib.Seq.{getD-take, length-take-le, take-at}
+use lib.ListN.{length, take, getD, set, replicate, length-map, length-append, length-replicate}
+use lib.Seq.{length-take-le, take-at}
 use Rattle.terms.specs.Keyed.{padded}
 use Rattle.terms.specs.Setting.{mostTerms}
 use Rattle.terms.proofs.KeyedLaws.{map-more}
 use Rattle.terms.proofs.ClosingLaws.{padded-snoc}
-use Rattle.terms.proofs.EachLaws.{getD-any}
 
 -- the array a has the values of the first i of the n terms in t, and z past them
 pub record Gathered {A B : Type 0} (f : A → B) (z : B) (n : ℕ) (t : List A) (a : List B) (i : ℕ) : Type 0 where
@@ -74,12 +73,3 @@ module _ {A B : Type 0} (f : A → B) (z : B) (n : ℕ) (t : List A) (a : List B
   values-first =
       let l = map f (take n t) in
       ap (take n) e ∙ take-at l (replicate (mostTerms - length l) z) n (values f t n few)
-
-  pub value-at : (i : ℕ) (d : A) (o : B) → i < n → getD a i o ≡ f (getD t i d)
-  value-at i d o h =
-      let long : length (map f (take n t)) ≡ n = values f t n few in
-      sym (getD-take n a i o h)
-      ∙ ap (λ (l : List B). getD l i o) values-first
-      ∙ getD-any (map f (take n t)) i o (f d) (omega arith)
-      ∙ List·getD-map f (take n t) i d
-      ∙ ap f (getD-take n t i d h)

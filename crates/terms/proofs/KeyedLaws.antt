@@ -56,11 +56,6 @@ has-step false h i n e =
     e
     ∙ bool-ext (ltb i n) (ltb (suc i) (suc n)) (λ t. let k = ltb-true i n t in lt-ltb (suc i) (suc n) (omega arith)) (λ t. let k = ltb-true (suc i) (suc n) t in lt-ltb i n (omega arith))
 
-found-step : {A : Type 0} (test : A → Bool) (d x : A) (xs : List A) (i : ℕ) (b : Bool) → test x ≡ b → cond b zero (suc i) < suc (length xs)
-    → (i < length xs → test (getD xs i d) ≡ true) → test (getD (x ∷ xs) (cond b zero (suc i)) d) ≡ true
-found-step test d x xs i true e h rest = e
-found-step test d x xs i false e h rest = rest (le-of-suc-le-suc h)
-
 module _ {A : Type 0} (test : A → Bool) where
   -- ---- a search from the front: one place further
 
@@ -113,12 +108,6 @@ module _ {A : Type 0} (test : A → Bool) where
 
   pub has-false : (l : List A) → has test l ≡ false → firstAt test l ≡ length l
   has-false l e = le-antisymm (firstAt-le l) (ltb-false (firstAt test l) (length l) (sym (has-is l) ∙ e))
-
-  -- the element found has the key
-  pub found : (d : A) (l : List A) → firstAt test l < length l → test (getD l (firstAt test l) d) ≡ true
-  unfolding firstAt
-  found d [] h = absurd (not-suc-le-zero h)
-  found d (x ∷ xs) h = found-step test d x xs (firstAt test xs) (test x) refl h (found d xs)
 
 module _ {A : Type 0} (p : A → List A → Bool) where
   -- made of a first one and the later ones

@@ -14,6 +14,6 @@ pub mod RunLaws
 pub mod AnswerLaws
 pub mod ChainLaws
 pub mod ValidSetLaws
-pub mod NumberedLaws
+pub mod FingerprintLaws
 pub mod MarkLaws
 pub mod GatherLaws

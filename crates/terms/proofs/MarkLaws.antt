@@ -1,5 +1,5 @@
--- Laws of marks: no number is marked at first, one number more, and a number whose place has no mark is none of those seen, so that a number
--- that is taken for new by its mark is new.
+-- Laws of marks: no masks are marked at first, those of one product more, and masks whose place has no mark are none of those seen, so that masks
+-- that are taken for new by their mark are new.
 -- Assumes nothing.
 use Prim.Native.Nat.{ℕ, _+_, _≤_, _<_, min}
 use native.Mathlib.Nat.{eq-or-lt-of-le}
@@ -19,7 +19,7 @@ use Rattle.terms.specs.Marks.{markOf, markOfPair, sameTwo, newByMarks}
 use Rattle.terms.specs.Setting.{mostTerms}
 use Rattle.terms.proofs.KeyedLaws.{by-test}
 
--- ---- a number taken for new among the first n: its place is k
+-- ---- masks taken for new among the first n: their place is k
 
 module _ {B : Type 0} (place : B → ℕ) (same : B → B → Bool) (marks : List ℕ) (read : ℕ → B) (n : ℕ) (x : B) where
   -- the place has no mark
@@ -27,14 +27,14 @@ module _ {B : Type 0} (place : B → ℕ) (same : B → B → Bool) (marks : Lis
   unfolding newByMarks
   new-unmarked {k} is e = rw (eq-eqb (getD marks (place x) 0) 0 (ap (λ j. getD marks j 0) (sym is) ∙ e))
 
-  -- it has one: m numbers are compared
+  -- it has one: m masks are compared
   pub new-compared : {m k : ℕ} → m ≡ n → k ≡ place x → (getD marks k 0 ≡ 0 → ⊥) → newByMarks place same marks read n x ≡ every m (λ j. not (same (read j) x))
   unfolding newByMarks
   new-compared {m} {k} all is e = rw (all, ne-eqb (getD marks (place x) 0) 0 (λ z. e (ap (λ j. getD marks j 0) is ∙ z)))
 
--- ---- marked numbers
+-- ---- marked masks
 
--- the first n numbers that `read` gives are marked
+-- the first n masks that `read` gives are marked
 pub record Marked {B : Type 0} (place : B → ℕ) (marks : List ℕ) (read : ℕ → B) (n : ℕ) : Type 0 where
   pub mark : (j : ℕ) → j < n → getD marks (place (read j)) 0 ≡ 1
 
@@ -68,7 +68,7 @@ module _ {B : Type 0} {place : B → ℕ} {marks : List ℕ} {read : ℕ → B} 
               | no e ↦ getD-set-other marks k (place (read j)) 1 0 e ∙ m .mark j h
             ]
 
-    -- numbers that are the same have one place
+    -- masks that are the same have one place
     unmarked-new : (same : B → B → Bool) → ((a b : B) → same a b ≡ true → place a ≡ place b) → (x : B) {k : ℕ} → k ≡ place x → getD marks k 0 ≡ 0
         → true ≡ every i (λ j. not (same (read j) x))
     unmarked-new same one x {k} is e =
@@ -88,11 +88,11 @@ module _ {B : Type 0} {place : B → ℕ} {marks : List ℕ} {read : ℕ → B} 
         new-unmarked place same marks read i x refl e ∙ unmarked-new same one x refl e)
         (λ f. new-compared place same marks read i x refl refl (λ e. true≢false (sym (eq-eqb (getD marks (place x) 0) 0 e) ∙ f))))
 
--- ---- the two kinds of numbers: what is taken for new is new
+-- ---- of one product and of two: what is taken for new is new
 
-pub number-new : {marks : List ℕ} {read : ℕ → ℕ} {i : ℕ} → Marked markOf marks read i → i ≤ mostTerms → (x : ℕ)
+pub masks-new : {marks : List ℕ} {read : ℕ → ℕ} {i : ℕ} → Marked markOf marks read i → i ≤ mostTerms → (x : ℕ)
     → newByMarks markOf eqb marks read (min i mostTerms) x ≡ every i (λ j. not (eqb (read j) x))
-number-new m few x = new-is m few eqb (λ a b e. ap markOf (eqb-true a b e)) x
+masks-new m few x = new-is m few eqb (λ a b e. ap markOf (eqb-true a b e)) x
 
 pub pair-new : {marks : List ℕ} {read : ℕ → ℕ × ℕ} {i : ℕ} → Marked markOfPair marks read i → i ≤ mostTerms → (x : ℕ × ℕ)
     → newByMarks markOfPair sameTwo marks read (min i mostTerms) x ≡ every i (λ j. not (sameTwo (read j) x))

@@ -22,28 +22,28 @@ use Rattle.terms.proofs.SettingLaws.{Held, held-past}
 held-long : {A : Type 0} (n : ℕ) (t : List A) → length t ≡ mostTerms → length (take n t) ≡ min n mostTerms
 held-long n t whole = length-take n t ∙ ap (min n) whole
 
--- ---- the search: the places from `from` on that are below i do not have the key. A count past the places counts as their end
-pub record Searched {A : Type 0} (test : A → Bool) (n : ℕ) (t : List A) (from i : ℕ) : Type 0 where
+-- ---- the search: the places below i do not have the key. A count past the places counts as their end
+pub record Searched {A : Type 0} (test : A → Bool) (n : ℕ) (t : List A) (i : ℕ) : Type 0 where
   pub whole : length t ≡ mostTerms
-  pub place : from + firstAt test (drop from (take n t)) ≡ i + firstAt test (drop i (take n t))
+  pub place : firstAt test (take n t) ≡ i + firstAt test (drop i (take n t))
 
-module _ {A : Type 0} {test : A → Bool} {n : ℕ} {t : List A} {from : ℕ} where
-  pub searched-none : length t ≡ mostTerms → Searched test n t from from
-  searched-none whole = record { whole = whole; place = refl }
+module _ {A : Type 0} {test : A → Bool} {n : ℕ} {t : List A} where
+  pub searched-none : length t ≡ mostTerms → Searched test n t 0
+  searched-none whole = record { whole = whole; place = omega arith }
 
-  pub searched-more : {i : ℕ} (d : A) → Searched test n t from i → i < min n mostTerms → test (getD t i d) ≡ false → Searched test n t from (i + 1)
+  pub searched-more : {i : ℕ} (d : A) → Searched test n t i → i < min n mostTerms → test (getD t i d) ≡ false → Searched test n t (i + 1)
   searched-more {i} d s h e =
       let long = held-long n t (s .whole) in
       let p = skips test (take n t) i d (omega arith) (ap test (getD-take n t i d (omega arith)) ∙ e) in
       record { whole = s .whole; place = omega (arith, s .place) }
 
-  pub searched-found : {i : ℕ} (d : A) → Searched test n t from i → i < min n mostTerms → test (getD t i d) ≡ true → i ≡ from + firstAt test (drop from (take n t))
+  pub searched-found : {i : ℕ} (d : A) → Searched test n t i → i < min n mostTerms → test (getD t i d) ≡ true → i ≡ firstAt test (take n t)
   searched-found {i} d s h e =
       let long = held-long n t (s .whole) in
       let p = passes test (take n t) i d (omega arith) (ap test (getD-take n t i d (omega arith)) ∙ e) in
       omega (arith, s .place)
 
-  pub searched-done : {i : ℕ} → Searched test n t from i → min n mostTerms ≤ i → i ≡ from + firstAt test (drop from (take n t))
+  pub searched-done : {i : ℕ} → Searched test n t i → min n mostTerms ≤ i → i ≡ firstAt test (take n t)
   searched-done {i} s h =
       let long = held-long n t (s .whole) in
       let p = none-left test (take n t) i (omega arith) in

@@ -6,7 +6,7 @@ use mathlib.Core.Bool.{Bool, true, false, cond}
 use mathlib.Core.List.{List, [], _∷_, _++_, map}
 use Rattle.letters.specs.Gauss.{G, 𝟘, _⊕_, _⊗_, conj}
 use Rattle.letters.specs.Sums.{Σ}
-use Rattle.letters.proofs.GaussLaws.{⊕-assoc, ⊕-four, ⊕-𝟘, 𝟘-⊕, ⊗-⊕, ⊗-𝟘, ⊕-⊗, 𝟘-⊗, conj-⊕, conj-𝟘}
+use Rattle.letters.proofs.GaussLaws.{⊕-assoc, ⊕-𝟘, 𝟘-⊕, ⊗-⊕, ⊗-𝟘, ⊕-⊗, 𝟘-⊗, conj-⊕, conj-𝟘}
 use Rattle.letters.proofs.SumLaws.{Σ-zero, Σ-add}
 use Rattle.terms.specs.Keyed.{concatMap}
 use Rattle.terms.specs.Gaussian.{summed}
@@ -52,12 +52,6 @@ module _ {A : Type 0} where
   summed-zero [] = refl
   summed-zero (x ∷ l) = 𝟘-⊕ (summed (λ x. 𝟘) l) ∙ summed-zero l
 
-  -- a sum of sums
-  pub summed-add : (f g : A → G) (l : List A) → summed (λ x. f x ⊕ g x) l ≡ summed f l ⊕ summed g l
-  unfolding summed
-  summed-add f g [] = sym (⊕-𝟘 𝟘)
-  summed-add f g (x ∷ l) = ap (λ y. (f x ⊕ g x) ⊕ y) (summed-add f g l) ∙ ⊕-four (f x) (g x) (summed f l) (summed g l)
-
   -- a common factor in front
   pub summed-scale : (c : G) (f : A → G) (l : List A) → summed (λ x. c ⊗ f x) l ≡ c ⊗ summed f l
   unfolding summed
@@ -99,9 +93,3 @@ module _ {A B : Type 0} where
   unfolding summed concatMap
   summed-concatMap f g [] = refl
   summed-concatMap f g (x ∷ l) = summed-append f (g x) (concatMap g l) ∙ ap (λ y. summed f (g x) ⊕ y) (summed-concatMap f g l)
-
-  -- two sums in either order
-  pub summed-swap : (f : A → B → G) (l : List A) (r : List B) → summed (λ x. summed (f x) r) l ≡ summed (λ y. summed (λ x. f x y) l) r
-  unfolding summed
-  summed-swap f [] r = sym (summed-zero r)
-  summed-swap f (x ∷ l) r = ap (λ z. summed (f x) r ⊕ z) (summed-swap f l r) ∙ sym (summed-add (f x) (λ y. summed (λ x. f x y) l) r)

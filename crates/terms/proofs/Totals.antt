@@ -8,11 +8,11 @@ use mathlib.Core.List.{List, [], _∷_, map}
 use mathlib.Core.Option.{some, Option·some-injective}
 use Rattle.letters.specs.Gauss.{G, 𝟘, _⊕_, _⊗_, conj, i^, eqG}
 use Rattle.letters.specs.Sums.{Σ}
-use Rattle.letters.proofs.GaussLaws.{ring, ⊕-assoc, ⊕-comm, ⊕-𝟘, 𝟘-⊕, ⊗-𝟘, 𝟘-⊗, ⊗-assoc, ⊗-left-comm, ⊕-cancel, eqG-true, conj-⊗, conj-conj, conj-𝟘}
+use Rattle.letters.proofs.GaussLaws.{ring, ⊕-assoc, ⊕-comm, ⊕-𝟘, 𝟘-⊕, 𝟘-⊗, ⊗-assoc, ⊗-left-comm, ⊕-cancel, eqG-true, conj-⊗}
 use Rattle.letters.proofs.SumLaws.{Σ-cong, Σ-scale}
 use Rattle.terms.specs.Keyed.{held, struck, written, headOr, concatMap}
 use Rattle.terms.specs.Setting.{keyed, coefficientAt, write, added, addAll}
-use Rattle.terms.specs.Chains.{timesTerms, conjugateTerms, convertTerms, scaledTerms, pairTerms}
+use Rattle.terms.specs.Chains.{timesTerms, conjugateTerms, convertTerms, scaledTerms, fullTerms}
 use Rattle.terms.specs.Gaussian.{gaussian, gaussianProducts, summed, weighted}
 use Rattle.terms.proofs.KeyedLaws.{All, by-test}
 use Rattle.terms.proofs.SettingLaws.{roomFor, addOne, write-zero, write-other, addAll-nil, addAll-room, addAll-full, none-some}
@@ -200,35 +200,12 @@ weighted-scaled {K} same φ a l =
 
 -- ---- pairs
 
--- the value of a key, zero where it is empty
-abbrev pub keyValue : {K : Type 0} → (K → Bool) → (K → G) → K → G
-keyValue empty φ p = cond (empty p) 𝟘 (φ p)
-
--- the value of a pair of keys, zero where one of them is empty
-abbrev pub pairValue : {K : Type 0} → (K → Bool) → (K × K → G) → K → K → G
-pairValue empty φ p q = cond (not (empty p) && not (empty q)) (φ (p, q)) 𝟘
-
--- a pair's share, in the order of the sums
-pair-share : (b : Bool) (c a v f : G) → cond b (((conj c ⊗ a) ⊗ v) ⊗ f) 𝟘 ≡ (v ⊗ a) ⊗ conj (c ⊗ conj (cond b f 𝟘))
-pair-share true c a v f = sort (conj c) a v f ∙ ap (λ y. (v ⊗ a) ⊗ (conj c ⊗ y)) (sym (conj-conj f)) ∙ ap (λ y. (v ⊗ a) ⊗ y) (sym (conj-⊗ c (conj f)))
-  where
-    sort : (c a v f : G) → ((c ⊗ a) ⊗ v) ⊗ f ≡ (v ⊗ a) ⊗ (c ⊗ f)
-    sort c a v f = simp ring
-pair-share false c a v f =
-    sym (ap (λ y. (v ⊗ a) ⊗ conj (c ⊗ y)) conj-𝟘 ∙ ap (λ y. (v ⊗ a) ⊗ conj y) (⊗-𝟘 c) ∙ ap (λ y. (v ⊗ a) ⊗ y) conj-𝟘 ∙ ⊗-𝟘 (v ⊗ a))
-
--- a value that is a product
-split-value : (a b : Bool) (f g : G) → conj (cond (not a && not b) (f ⊗ conj g) 𝟘) ≡ conj (cond a 𝟘 f) ⊗ cond b 𝟘 g
-split-value true b f g = conj-𝟘 ∙ sym (ap (λ y. y ⊗ cond b 𝟘 g) conj-𝟘 ∙ 𝟘-⊗ (cond b 𝟘 g))
-split-value false true f g = conj-𝟘 ∙ sym (⊗-𝟘 (conj f))
-split-value false false f g = conj-⊗ f (conj g) ∙ ap (λ y. conj f ⊗ y) (conj-conj g)
-
 module _ {K : Type 0} (same : K → K → Bool) (same² : K × K → K × K → Bool) (φ : K × K → G) (empty : K → Bool) (v : G) where
   -- the pairs of two sets' terms: the double sum, with zero where a key is empty
   pub weighted-pairs : (l r : List (K × G))
-      → weighted φ (pairTerms (gaussian K same) (gaussian (K × K) same²) gaussianProducts empty v l r)
+      → weighted φ (fullTerms (gaussian K same) (gaussian (K × K) same²) gaussianProducts empty v l r)
       ≡ summed (λ (x : K × G). summed (λ (y : K × G). cond (not (empty (x .0)) && not (empty (y .0))) (((conj (y .1) ⊗ x .1) ⊗ v) ⊗ φ (x .0, y .0)) 𝟘) r) l
-  unfolding pairTerms
+  unfolding fullTerms
   weighted-pairs l r =
       summed-concatMap value (λ (x : K × G). concatMap (made x) r) l
       ∙ summed-same (λ (x : K × G). summed value (concatMap (made x) r)) (λ (x : K × G). summed (λ (y : K × G). cond (kept x y) (value (pair x y)) 𝟘) r) l
@@ -246,56 +223,3 @@ module _ {K : Type 0} (same : K → K → Bool) (same² : K × K → K × K → 
 
       made : K × G → K × G → List ((K × K) × G)
       made x y = cond (kept x y) (pair x y ∷ []) []
-
-  -- the same as two sums, one in the other
-  pub weighted-pairs-conj : (l r : List (K × G))
-      → weighted φ (pairTerms (gaussian K same) (gaussian (K × K) same²) gaussianProducts empty v l r)
-      ≡ v ⊗ weighted (λ p. conj (weighted (λ q. conj (pairValue empty φ p q)) r)) l
-  weighted-pairs-conj l r =
-      weighted-pairs l r
-      ∙ summed-same
-      (λ (x : K × G). summed (λ (y : K × G). cond (not (empty (x .0)) && not (empty (y .0))) (((conj (y .1) ⊗ x .1) ⊗ v) ⊗ φ (x .0, y .0)) 𝟘) r)
-      (λ (x : K × G). v ⊗ (x .1 ⊗ conj (weighted (λ q. conj (pairValue empty φ (x .0) q)) r)))
-      l
-      row
-      ∙ summed-scale v (λ (x : K × G). x .1 ⊗ conj (weighted (λ q. conj (pairValue empty φ (x .0) q)) r)) l
-    where
-      row : (x : K × G) → summed (λ (y : K × G). cond (not (empty (x .0)) && not (empty (y .0))) (((conj (y .1) ⊗ x .1) ⊗ v) ⊗ φ (x .0, y .0)) 𝟘) r
-          ≡ v ⊗ (x .1 ⊗ conj (weighted (λ q. conj (pairValue empty φ (x .0) q)) r))
-      row x =
-          summed-same
-          (λ (y : K × G). cond (not (empty (x .0)) && not (empty (y .0))) (((conj (y .1) ⊗ x .1) ⊗ v) ⊗ φ (x .0, y .0)) 𝟘)
-          (λ (y : K × G). (v ⊗ x .1) ⊗ conj (y .1 ⊗ conj (pairValue empty φ (x .0) (y .0))))
-          r
-          (λ y. pair-share (not (empty (x .0)) && not (empty (y .0))) (y .1) (x .1) v (φ (x .0, y .0)))
-          ∙ summed-scale (v ⊗ x .1) (λ (y : K × G). conj (y .1 ⊗ conj (pairValue empty φ (x .0) (y .0)))) r
-          ∙ ap (λ z. (v ⊗ x .1) ⊗ z) (sym (conj-summed (λ (y : K × G). y .1 ⊗ conj (pairValue empty φ (x .0) (y .0))) r))
-          ∙ ⊗-assoc v (x .1) (conj (weighted (λ q. conj (pairValue empty φ (x .0) q)) r))
-
-  -- where the value of a pair is a product, so is the sum
-  pub weighted-pairs-split : (f g : K → G) → ((p q : K) → φ (p, q) ≡ f p ⊗ conj (g q)) → (l r : List (K × G))
-      → weighted φ (pairTerms (gaussian K same) (gaussian (K × K) same²) gaussianProducts empty v l r)
-      ≡ v ⊗ (weighted (λ p. keyValue empty f p) l ⊗ conj (weighted (λ q. keyValue empty g q) r))
-  weighted-pairs-split f g e l r =
-      weighted-pairs-conj l r
-      ∙ ap (λ z. v ⊗ z)
-      (summed-same
-      (λ (x : K × G). x .1 ⊗ conj (weighted (λ q. conj (pairValue empty φ (x .0) q)) r))
-      (λ (x : K × G). (x .1 ⊗ keyValue empty f (x .0)) ⊗ conj (weighted (λ q. keyValue empty g q) r))
-      l
-      (λ x. ap (λ z. x .1 ⊗ z) (inner (x .0)) ∙ sym (⊗-assoc (x .1) (keyValue empty f (x .0)) (conj (weighted (λ q. keyValue empty g q) r))))
-      ∙ summed-scale-r (conj (weighted (λ q. keyValue empty g q) r)) (λ (x : K × G). x .1 ⊗ keyValue empty f (x .0)) l)
-    where
-      share : (p : K) (y : K × G) → y .1 ⊗ conj (pairValue empty φ p (y .0)) ≡ conj (keyValue empty f p) ⊗ (y .1 ⊗ keyValue empty g (y .0))
-      share p y =
-          ap (λ z. y .1 ⊗ conj (cond (not (empty p) && not (empty (y .0))) z 𝟘)) (e p (y .0))
-          ∙ ap (λ z. y .1 ⊗ z) (split-value (empty p) (empty (y .0)) (f p) (g (y .0)))
-          ∙ ⊗-left-comm (y .1) (conj (keyValue empty f p)) (keyValue empty g (y .0))
-
-      inner : (p : K) → conj (weighted (λ q. conj (pairValue empty φ p q)) r) ≡ keyValue empty f p ⊗ conj (weighted (λ q. keyValue empty g q) r)
-      inner p =
-          ap conj
-          (summed-same (λ (y : K × G). y .1 ⊗ conj (pairValue empty φ p (y .0))) (λ (y : K × G). conj (keyValue empty f p) ⊗ (y .1 ⊗ keyValue empty g (y .0))) r (share p)
-          ∙ summed-scale (conj (keyValue empty f p)) (λ (y : K × G). y .1 ⊗ keyValue empty g (y .0)) r)
-          ∙ conj-⊗ (conj (keyValue empty f p)) (weighted (λ q. keyValue empty g q) r)
-          ∙ ap (λ z. z ⊗ conj (weighted (λ q. keyValue empty g q) r)) (conj-conj (keyValue empty f p))

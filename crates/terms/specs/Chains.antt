@@ -32,8 +32,8 @@ module _ {K N : Type 0} (S : Terms K N) (P : Products N) where
 -- the pairs of two sets' terms, as terms of a set T of pairs of keys
 module _ {K N : Type 0} (S : Terms K N) (T : Terms (K × K) N) (P : Products N) where
   -- the pairs in which neither key is empty
-  unfoldable pub pairTerms : (K → Bool) → N → List (S .Term) → List (S .Term) → List (T .Term)
-  pairTerms empty v l r =
+  unfoldable pub fullTerms : (K → Bool) → N → List (S .Term) → List (S .Term) → List (T .Term)
+  fullTerms empty v l r =
       concatMap (λ x. concatMap (λ y.
       cond (not (empty (S .key x)) && not (empty (S .key y)))
       (T .term (S .key x, S .key y) (P .product (P .product (P .conjugate (S .coefficient y)) (S .coefficient x)) v) ∷ [])

@@ -2,8 +2,7 @@
 -- Assumes nothing.
 use mathlib.Core.Path.{sym}
 use borrow.Author.Needs.{needs}
-use Rattle.items.proofs.RecordLaws.{reach-none, reach-past}
-use Rattle.items.proofs.RecordLaws.{reach-from}
+use Rattle.items.proofs.RecordLaws.{reach-none, reach-past, reach-from}
 use Rattle.items.proofs.reach_of.Statement.{statement}
 use Rattle.items.proofs.reach_of.Tie as tie
 

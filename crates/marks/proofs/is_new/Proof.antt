@@ -1,4 +1,4 @@
--- `marks::is_new`: the places below j have other numbers; the loop ends at the first that has x, or with none left.
+-- `marks::is_new`: the places below j have other masks; the loop ends at the first that has x, or with none left.
 -- Assumes nothing.
 use mathlib.Core.Path.{_≡_, sym, ap}
 use mathlib.Core.Bool.{true, not}
@@ -15,10 +15,10 @@ use Rattle.marks.proofs.is_new.Statement.{statement}
 use Rattle.marks.proofs.is_new.Tie as tie
 
 abbrev Inv-loop : tie.InvT-loop
-Inv-loop numbers n x j₀ j = (j ≤ n) × (every j (λ k. not (eqb (getD numbers k 0) x)) ≡ true)
+Inv-loop masks n x j₀ j = (j ≤ n) × (every j (λ k. not (eqb (getD masks k 0) x)) ≡ true)
 
 abbrev μ-loop : tie.MeasureT-loop
-μ-loop numbers n x j₀ j = n - j
+μ-loop masks n x j₀ j = n - j
 
 loop-holds : tie.Need-loop-holds Inv-loop μ-loop
 unfolding every

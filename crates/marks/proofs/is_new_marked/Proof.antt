@@ -1,4 +1,4 @@
--- `marks::is_new_marked`: a number whose mark is not set is taken for new (`new-unmarked`); else `is_new` answers (`new-compared`).
+-- `marks::is_new_marked`: masks whose mark is not set are taken for new (`new-unmarked`); else `is_new` answers (`new-compared`).
 -- Assumes nothing.
 use Prim.Native.Nat.{ℕ, min}
 use native.Mathlib.Omega.{arith}
@@ -14,13 +14,13 @@ use Rattle.terms.proofs.MarkLaws.{new-unmarked, new-compared}
 use Rattle.marks.proofs.is_new_marked.Statement.{statement}
 use Rattle.marks.proofs.is_new_marked.Tie as tie
 
--- the mark is set: k numbers are compared
+-- the mark is set: k masks are compared
 compared : (m : tie.After-mark-of) {k : ℕ} → let a = m .before .args in
     k ≡ min (a .n) mostTerms → (getD (a .marks .now) (m .mark-of .result) 0 ≡ 0 → ⊥)
-    → newByMarks markOf eqb (a .marks .now) (λ j. getD (a .numbers .now) j 0) (min (a .n) mostTerms) (a .x) ≡ every k (λ j. not (eqb (getD (a .numbers .now) j 0) (a .x)))
+    → newByMarks markOf eqb (a .marks .now) (λ j. getD (a .masks .now) j 0) (min (a .n) mostTerms) (a .x) ≡ every k (λ j. not (eqb (getD (a .masks .now) j 0) (a .x)))
 compared m all set =
     let a = m .before .args in
-    new-compared markOf eqb (a .marks .now) (λ j. getD (a .numbers .now) j 0) (min (a .n) mostTerms) (a .x) all (m .mark-of .ensures) set
+    new-compared markOf eqb (a .marks .now) (λ j. getD (a .masks .now) j 0) (min (a .n) mostTerms) (a .x) all (m .mark-of .ensures) set
 
 mark-of-requires : tie.Need-mark-of-requires
 mark-of-requires c κs = search needs
@@ -32,7 +32,7 @@ returns : tie.Need-returns
 returns c =
     let m = c .before .before in
     let a = m .before .args in
-    sym (new-unmarked markOf eqb (a .marks .now) (λ j. getD (a .numbers .now) j 0) (min (a .n) mostTerms) (a .x) (m .mark-of .ensures) (c .if1 .taken))
+    sym (new-unmarked markOf eqb (a .marks .now) (λ j. getD (a .masks .now) j 0) (min (a .n) mostTerms) (a .x) (m .mark-of .ensures) (c .if1 .taken))
 
 is-new-requires : tie.Need-is-new-requires
 is-new-requires c κs = search needs

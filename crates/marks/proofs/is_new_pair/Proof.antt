@@ -1,4 +1,4 @@
--- `marks::is_new_pair`: the places below j have other numbers; the loop ends at the first that has both, or with none left.
+-- `marks::is_new_pair`: the places below j have other masks; the loop ends at the first that has both, or with none left.
 -- Assumes nothing.
 use mathlib.Core.Path.{_≡_, sym, ap}
 use mathlib.Core.Bool.{true, not}

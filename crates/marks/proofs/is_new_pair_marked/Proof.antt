@@ -1,4 +1,4 @@
--- `marks::is_new_pair_marked`: two numbers whose mark is not set are taken for new (`new-unmarked`); else `is_new_pair` answers (`new-compared`).
+-- `marks::is_new_pair_marked`: masks whose mark is not set are taken for new (`new-unmarked`); else `is_new_pair` answers (`new-compared`).
 -- Assumes nothing.
 use Prim.Native.Nat.{ℕ, min}
 use native.Mathlib.Omega.{arith}
@@ -13,7 +13,7 @@ use Rattle.terms.proofs.MarkLaws.{new-unmarked, new-compared}
 use Rattle.marks.proofs.is_new_pair_marked.Statement.{statement}
 use Rattle.marks.proofs.is_new_pair_marked.Tie as tie
 
--- the mark is set: k numbers are compared
+-- the mark is set: k masks are compared
 compared : (m : tie.After-pair-mark-of) {k : ℕ} → let a = m .before .args in
     k ≡ min (a .n) mostTerms → (getD (a .marks .now) (m .pair-mark-of .result) 0 ≡ 0 → ⊥)
     → newByMarks markOfPair sameTwo (a .marks .now) (λ j. (getD (a .lefts .now) j 0, getD (a .rights .now) j 0)) (min (a .n) mostTerms) (a .left, a .right) ≡ every k (λ j. not (sameTwo (getD (a .lefts .now) j 0, getD (a .rights .now) j 0) (a .left, a .right)))

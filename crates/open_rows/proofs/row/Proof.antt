@@ -11,7 +11,7 @@ use Rattle.rows.proofs.CallLaws.{call-spins, call-range, call-outside, call-row
 use Rattle.term_sets.proofs.SetLaws.{held-from}
 use Rattle.noise_sets.specs.Pairs.{heldBy}
 use Rattle.hamiltonians.specs.Reals.{hamiltonianTerms}
-use Rattle.outside_sites.specs.SystemItems.{itemsOf}
+use Rattle.outside_sites.specs.SystemItems.{systemItems}
 use Rattle.open_rows.specs.OpenRows.{systemRowOf}
 use Rattle.outside_sites.proofs.AcceptedLaws.{accepted, all-both, hamiltonian-valid, noise-valid}
 use Rattle.row_entries.proofs.EntryLaws.{square-few}
@@ -120,9 +120,9 @@ returns-6 c =
     let q = pairs-given _ n w in
     let few = f .if3 .left in
     let size = square-few _ few (g .before .superoperator-size .ensures) in
-    let none : [] ≡ outside (a .spins) (itemsOf t l) =
+    let none : [] ≡ outside (a .spins) (systemItems t l) =
     ⊎-elim
-    (λ z. ap carried (sym (z .4 .given .1)) ∙ z .2 .ensures ∙ ap (λ u. outside (a .spins) (itemsOf u l)) (held-from _ _ (z .1 .ensures)))
+    (λ z. ap carried (sym (z .4 .given .1)) ∙ z .2 .ensures ∙ ap (λ u. outside (a .spins) (systemItems u l)) (held-from _ _ (z .1 .ensures)))
     (λ z. sym (c .before .before .before .before .before .before .before .before .before .before .before .before .before .before .before .before .before .before .before .before .system-fits .ensures (not-false _ (z .left)) t l (hamiltonian-valid _ v) (noise-valid _ w) (p .count) (p .products) (q .count) (q .left-products) (q .right-products)))
     (c .before .before .before .before .before .before .before .before .before .before .before .before .before .before .before .before .before .before .before .if5 .came)
     in

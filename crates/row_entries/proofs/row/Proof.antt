@@ -1,4 +1,4 @@
--- `row_entries::row`: each refusal by the tests on the way, the entry by the pass over the places.
+-- `row_entries::row`: each refusal by the tests on the way, the entry from the masks.
 -- Assumes nothing.
 use mathlib.Core.Path.{sym, ap, _∙_}
 use Prim.Native.Nat.{ℕ, _^_, _≤_, _<_}
@@ -8,9 +8,9 @@ use borrow.Author.Needs.{needs}
 use Rattle.refusal.specs.Refusals.{gives}
 use Rattle.letters.specs.Matrices.{lettersOf}
 use Rattle.items.specs.Record.{reach}
-use Rattle.row_entries.specs.Walks.{walkOf}
-use Rattle.row_entries.proofs.RowLaws.{row-malformed, row-spins, row-range, row-outside, row-inside, row-small, size-few}
-use Rattle.row_entries.proofs.WalkLaws.{walk-inside}
+use Rattle.row_entries.specs.MaskEntries.{entryFromMasks}
+use Rattle.row_entries.proofs.RowLaws.{row-malformed, row-spins, row-range, row-outside, row-inside, size-few}
+use Rattle.row_entries.proofs.MaskEntryLaws.{from-masks-inside}
 use Rattle.row_entries.proofs.row.Statement.{statement}
 use Rattle.row_entries.proofs.row.Tie as tie
 
@@ -41,8 +41,8 @@ returns-4 c = row-outside _ _ _ _ (sym (c .before .before .before .before .befor
 masks-requires : tie.Need-masks-requires
 masks-requires c κs = search needs
 
-walked-requires : tie.Need-walked-requires
-walked-requires c κs = search needs
+entry-from-masks-requires : tie.Need-entry-from-masks-requires
+entry-from-masks-requires c κs = search needs
 
 returns-5 : tie.Need-returns-5
 returns-5 c =
@@ -58,9 +58,9 @@ returns-5 c =
     let r : a .row < 2 ^ a .spins = omega (arith, rows) in
     let v = sym (judged .before .is-valid .ensures) ∙ not-false _ (judged .if1 .left) in
     ap gives
-    (c .walked .ensures
-    ∙ ap (λ (m : ℕ). walkOf (lettersOf (a .kind)) m (a .row)) (c .before .masks .ensures)
-    ∙ walk-inside (a .kind) (a .p) v (a .row) (row-small _ few rows (range .if3 .left)) (a .spins) q r)
+    (c .entry-from-masks .ensures
+    ∙ ap (λ (m : ℕ). entryFromMasks (lettersOf (a .kind)) m (a .row)) (c .before .masks .ensures)
+    ∙ from-masks-inside (a .kind) (a .p) v (a .row) (a .spins) q r)
     ∙ row-inside _ _ _ _ v few rows (range .if3 .left) (far .reach-of .ensures) (inside .if4 .left)
 
 pub row-spec : {M : Type 1} → statement M
@@ -76,5 +76,5 @@ row-spec =
     sub-t14
     returns-4
     masks-requires
-    walked-requires
+    entry-from-masks-requires
     returns-5)

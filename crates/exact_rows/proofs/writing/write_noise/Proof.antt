@@ -7,7 +7,7 @@ use borrow.Author.Needs.{needs}
 use Rattle.rows.specs.Buffers.{Long}
 use Rattle.exact_sums.specs.ExactSums.{wholeParts, exactEntries}
 use Rattle.outside_sites.specs.Accepted.{Accepted}
-use Rattle.noise_sets.specs.Pairs.{itemsOf}
+use Rattle.noise_sets.specs.Pairs.{sidesOf}
 use Rattle.exact_rows.specs.ExactRows.{exactNoisePart}
 use Rattle.outside_sites.proofs.AcceptedLaws.{sides-accepted}
 use Rattle.contributions.proofs.WritingLaws.{WritingIn, writing-from, writing-more, writing-done}
@@ -16,7 +16,7 @@ use Rattle.exact_rows.proofs.writing.write_noise.Tie as tie
 
 abbrev Inv-loop : tie.InvT-loop
 Inv-loop spins row from columns₀ re₀ im₀ s n i₀ columns re im i =
-    WritingIn wholeParts (Long columns₀ re₀ im₀ × Accepted spins (2 ^ spins * 2 ^ spins) row (itemsOf (take (s .count) (s .terms)))) (exactEntries columns₀ re₀ im₀ from) (exactNoisePart spins row) (s .count) n (s .terms) columns re im (from + 3 * i) i
+    WritingIn wholeParts (Long columns₀ re₀ im₀ × Accepted spins (2 ^ spins * 2 ^ spins) row (sidesOf (take (s .count) (s .terms)))) (exactEntries columns₀ re₀ im₀ from) (exactNoisePart spins row) (s .count) n (s .terms) columns re im (from + 3 * i) i
 
 abbrev μ-loop : tie.MeasureT-loop
 μ-loop spins row from columns₀ re₀ im₀ s n i₀ columns re im i = n - i

@@ -12,8 +12,8 @@ use Rattle.hamiltonians.proofs.pauli_hamiltonian.coefficient_at.Tie as 
 whole : (c : tie.Start) → length (c .args .t1 .terms) ≡ 64
 whole c = simp length-map at (c .good .0 .1 .1 .1 .0 .1 .0 .1)
 
-find-from-requires : tie.Need-find-from-requires
-find-from-requires c κs = search needs
+find-requires : tie.Need-find-requires
+find-requires c κs = search needs
 
 mul-t : tie.Need-mul-t
 mul-t c = search needs
@@ -24,13 +24,13 @@ element-copy-out-t c = search needs
 returns : tie.Need-returns
 returns c =
     let f = c .before .before in
-    place-coefficient realTerms (f .before .args .key) (f .before .args .t1 .count) (f .before .args .t1 .terms) (whole (f .before)) (f .find-from .result) (omega arith) _ (omega arith)
+    place-coefficient realTerms (f .before .args .key) (f .before .args .t1 .count) (f .before .args .t1 .terms) (whole (f .before)) (f .find .result) (omega arith) _ (omega arith)
 
 returns-2 : tie.Need-returns-2
 returns-2 c =
     let f = c .before in
-    free-coefficient realTerms (f .before .args .key) (f .before .args .t1 .count) (f .before .args .t1 .terms) (whole (f .before)) (f .find-from .result) (omega arith) (omega arith)
+    free-coefficient realTerms (f .before .args .key) (f .before .args .t1 .count) (f .before .args .t1 .terms) (whole (f .before)) (f .find .result) (omega arith) (omega arith)
 
 pub coefficient-at-spec : {M : Type 1} → statement M
 coefficient-at-spec =
-    tie.close (tie.spec find-from-requires mul-t element-copy-out-t returns returns-2)
+    tie.close (tie.spec find-requires mul-t element-copy-out-t returns returns-2)

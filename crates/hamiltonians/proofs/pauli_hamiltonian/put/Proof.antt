@@ -18,11 +18,11 @@ own : (c : tie.Start) → Held blank (c .args .s .count) (c .args .s .terms)
 own c = held-own realSets (c .args .s) (simp length-map at (c .good .0 .1 .1 .1 .0 .1 .0 .1)) (c .pre)
 
 -- the search answered the place of the first term with the key
-place : (c : tie.After-find-from) → c .find-from .result ≡ firstAt (keyed realTerms (c .before .args .key)) (heldBy (c .before .args .s))
+place : (c : tie.After-find) → c .find .result ≡ firstAt (keyed realTerms (c .before .args .key)) (heldBy (c .before .args .s))
 place c = omega arith
 
-find-from-requires : tie.Need-find-from-requires
-find-from-requires c κs = (own c .few, omega arith)
+find-requires : tie.Need-find-requires
+find-requires c κs = own c .few
 
 without-requires : tie.Need-without-requires
 without-requires c κs = search needs
@@ -32,14 +32,14 @@ returns c =
     let f = c .before .before .before in
     let a = f .before .args in
     let z = c .before .before .if1 .taken in
-    puts-struck realTerms realSets (a .key) (a .value) (a .s .count) (a .s .terms) (own (f .before)) (f .find-from .result) (place f) (omega arith) z (c .without .result) (c .without .ensures)
+    puts-struck realTerms realSets (a .key) (a .value) (a .s .count) (a .s .terms) (own (f .before)) (f .find .result) (place f) (omega arith) z (c .without .result) (c .without .ensures)
 
 returns-2 : tie.Need-returns-2
 returns-2 c =
     let f = c .before .before in
     let a = f .before .args in
     let z = c .before .if1 .taken in
-    puts-free realTerms realSets (a .key) (a .value) (a .s .count) (a .s .terms) (own (f .before)) (f .find-from .result) (place f) (omega arith) z
+    puts-free realTerms realSets (a .key) (a .value) (a .s .count) (a .s .terms) (own (f .before)) (f .find .result) (place f) (omega arith) z
 
 mul-t11 : tie.Need-mul-t11
 mul-t11 c = omega (arith, own (c .before .before .before))
@@ -52,14 +52,14 @@ returns-3 c =
     let f = c .before .before in
     let a = f .before .args in
     let z = c .before .if1 .left in
-    puts-replaced realTerms realSets (a .key) (a .value) (a .s .count) (a .s .terms) (own (f .before)) (f .find-from .result) (place f) (omega arith) z
+    puts-replaced realTerms realSets (a .key) (a .value) (a .s .count) (a .s .terms) (own (f .before)) (f .find .result) (place f) (omega arith) z
 
 returns-4 : tie.Need-returns-4
 returns-4 c =
     let f = c .before .before .before in
     let a = f .before .args in
     let z = c .before .before .if1 .left in
-    puts-full realTerms realSets (a .key) (a .value) (a .s .count) (a .s .terms) (own (f .before)) (f .find-from .result) (place f) (omega arith) z (omega arith)
+    puts-full realTerms realSets (a .key) (a .value) (a .s .count) (a .s .terms) (own (f .before)) (f .find .result) (place f) (omega arith) z (omega arith)
 
 mul-t16 : tie.Need-mul-t16
 mul-t16 c = search needs
@@ -75,13 +75,13 @@ returns-5 c =
     let f = c .before .before .before in
     let a = f .before .args in
     let z = c .before .before .if1 .left in
-    puts-appended realTerms realSets (a .key) (a .value) (a .s .count) (a .s .terms) (own (f .before)) (f .find-from .result) (place f) (omega arith) z (omega arith)
+    puts-appended realTerms realSets (a .key) (a .value) (a .s .count) (a .s .terms) (own (f .before)) (f .find .result) (place f) (omega arith) z (omega arith)
 
 pub put-spec : {M : Type 1} → statement M
 put-spec =
     tie.close
     (tie.spec
-    find-from-requires
+    find-requires
     without-requires
     returns
     returns-2

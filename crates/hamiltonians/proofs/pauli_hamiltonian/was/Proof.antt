@@ -13,8 +13,8 @@ use Rattle.hamiltonians.proofs.pauli_hamiltonian.was.Tie as tie
 whole : (c : tie.Start) → length (c .args .t1 .terms) ≡ 64
 whole c = simp length-map at (c .good .0 .1 .1 .1 .0 .1 .0 .1)
 
-find-from-requires : tie.Need-find-from-requires
-find-from-requires c κs = search needs
+find-requires : tie.Need-find-requires
+find-requires c κs = search needs
 
 mul-t : tie.Need-mul-t
 mul-t c = search needs
@@ -26,13 +26,13 @@ returns : tie.Need-returns
 returns c =
     let f = c .before .before in
     ap gives
-    (place-value realTerms (f .before .args .key) (f .before .args .t1 .count) (f .before .args .t1 .terms) (whole (f .before)) (f .find-from .result) (omega arith) (λ t. complexOf (t .coefficient)) _ (omega arith))
+    (place-value realTerms (f .before .args .key) (f .before .args .t1 .count) (f .before .args .t1 .terms) (whole (f .before)) (f .find .result) (omega arith) (λ t. complexOf (t .coefficient)) _ (omega arith))
 
 returns-2 : tie.Need-returns-2
 returns-2 c =
     let f = c .before in
     ap gives
-    (free-value realTerms (f .before .args .key) (f .before .args .t1 .count) (f .before .args .t1 .terms) (whole (f .before)) (f .find-from .result) (omega arith) (λ t. complexOf (t .coefficient)) (omega arith))
+    (free-value realTerms (f .before .args .key) (f .before .args .t1 .count) (f .before .args .t1 .terms) (whole (f .before)) (f .find .result) (omega arith) (λ t. complexOf (t .coefficient)) (omega arith))
 
 pub was-spec : {M : Type 1} → statement M
-was-spec = tie.close (tie.spec find-from-requires mul-t element-copy-out-t returns returns-2)
+was-spec = tie.close (tie.spec find-requires mul-t element-copy-out-t returns returns-2)

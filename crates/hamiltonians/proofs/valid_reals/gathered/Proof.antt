@@ -1,4 +1,4 @@
--- `valid_reals::gathered`: the terms below i are good and have different masks (`Numbered`), which stand in their places (`Gathered`) and are marked
+-- `valid_reals::gathered`: the terms below i are good and have different masks (`Fingerprinted`), which stand in their places (`Gathered`) and are marked
 -- (`Marked`), as their coefficients stand in theirs; the loop ends at the first term that fails alone, where masks repeat, or with none left.
 -- Assumes nothing.
 use Prim.Native.Nat.{ℕ, _-_}
@@ -12,8 +12,8 @@ use Rattle.items.specs.Masks.{masksOf}
 use Rattle.items.proofs.SameLaws.{same-equal}
 use Rattle.terms.specs.Marks.{markOf}
 use Rattle.terms.proofs.BranchLaws.{passed, failed, failed-first, failed-second, passed-both}
-use Rattle.terms.proofs.NumberedLaws.{Numbers, oneNumber, stored-before, Numbered, numbered-none, numbered-failed, numbered-again, numbered-more, numbered-done}
-use Rattle.terms.proofs.MarkLaws.{Marked, marked-none, marked-more, number-new}
+use Rattle.terms.proofs.FingerprintLaws.{Fingerprints, oneFingerprint, stored-before, Fingerprinted, fingerprinted-none, fingerprinted-failed, fingerprinted-again, fingerprinted-more, fingerprinted-done}
+use Rattle.terms.proofs.MarkLaws.{Marked, marked-none, marked-more, masks-new}
 use Rattle.terms.proofs.GatherLaws.{Gathered, gathered-none, gathered-more, gathered-done, gathered-long}
 use Rattle.hamiltonians.specs.Reals.{realTerms}
 use Rattle.hamiltonians.proofs.RealValidLaws.{validHamiltonians}
@@ -22,12 +22,12 @@ use Rattle.hamiltonians.proofs.RealMaskLaws.{gathered-failed, gathered-
 use Rattle.hamiltonians.proofs.valid_reals.gathered.Statement.{statement}
 use Rattle.hamiltonians.proofs.valid_reals.gathered.Tie as tie
 
-abbrev numbers-of : Numbers realTerms ℕ
-numbers-of = oneNumber realTerms same-equal masksOf
+abbrev fingerprints-of : Fingerprints realTerms ℕ
+fingerprints-of = oneFingerprint realTerms same-equal masksOf
 
 abbrev Inv-loop : tie.InvT-loop
 Inv-loop s n masks₀ parts₀ marks₀ i₀ masks parts marks i =
-    Numbered validHamiltonians numbers-of s (λ j. getD masks j 0) i
+    Fingerprinted validHamiltonians fingerprints-of s (λ j. getD masks j 0) i
     × (Marked markOf marks (λ j. getD masks j 0) i
     × (Gathered (λ t. masksOf (t .items)) 0 n (s .terms) masks i
     × (Gathered (λ t. t .coefficient) plusZero n (s .terms) parts i
@@ -39,7 +39,7 @@ abbrev μ-loop : tie.MeasureT-loop
 loop-holds : tie.Need-loop-holds Inv-loop μ-loop
 loop-holds c =
     let whole : length (c .args .t1 .terms) ≡ 64 = simp length-map at (c .good .0 .1 .1 .1 .0 .1 .0 .1) in
-    (numbered-none validHamiltonians numbers-of whole (c .pre), (marked-none, (gathered-none (omega arith) (c .pre) refl, (gathered-none (omega arith) (c .pre) refl, refl))))
+    (fingerprinted-none validHamiltonians fingerprints-of whole (c .pre), (marked-none, (gathered-none (omega arith) (c .pre) refl, (gathered-none (omega arith) (c .pre) refl, refl))))
 
 mul-t : tie.Need-mul-t Inv-loop μ-loop
 mul-t c = omega arith
@@ -57,7 +57,7 @@ returns : tie.Need-returns Inv-loop μ-loop
 returns c =
     let v = c .before .before .before in
     let l = v .before .before .before .before in
-    gathered-failed (l .before .args .t1) (c .refused .ensures) (numbered-failed validHamiltonians numbers-of _ (l .loop .inv .0) (omega arith) (failed-first _ (v .judged .ensures .0) (c .before .if1 .taken)))
+    gathered-failed (l .before .args .t1) (c .refused .ensures) (fingerprinted-failed validHamiltonians fingerprints-of _ (l .loop .inv .0) (omega arith) (failed-first _ (v .judged .ensures .0) (c .before .if1 .taken)))
 
 good-coefficient-requires : tie.Need-good-coefficient-requires Inv-loop μ-loop
 good-coefficient-requires c κs = search needs
@@ -70,7 +70,7 @@ returns-2 c =
     let g = c .before .before in
     let v = g .before .before .before in
     let l = v .before .before .before .before in
-    gathered-failed (l .before .args .t1) (c .refused2 .ensures) (numbered-failed validHamiltonians numbers-of _ (l .loop .inv .0) (omega arith) (failed-second (v .judged .ensures .0) (g .good-coefficient .ensures) (c .before .if2 .taken)))
+    gathered-failed (l .before .args .t1) (c .refused2 .ensures) (fingerprinted-failed validHamiltonians fingerprints-of _ (l .loop .inv .0) (omega arith) (failed-second (v .judged .ensures .0) (g .good-coefficient .ensures) (c .before .if2 .taken)))
 
 is-new-marked-requires : tie.Need-is-new-marked-requires Inv-loop μ-loop
 is-new-marked-requires c κs = search needs
@@ -86,9 +86,9 @@ returns-3 c =
     let v = g .before .before .before in
     let l = v .before .before .before .before in
     gathered-failed (l .before .args .t1) (c .refused3 .ensures)
-    (numbered-again validHamiltonians numbers-of _ (l .loop .inv .0) (omega arith) masks-again
+    (fingerprinted-again validHamiltonians fingerprints-of _ (l .loop .inv .0) (omega arith) masks-again
     (judged-masks _ (passed (v .judged .ensures .0) (g .before .if1 .left)) (v .judged .ensures .1))
-    (failed (m .is-new-marked .ensures ∙ number-new (l .loop .inv .1 .0) (omega arith) (v .judged .result .masks)) (c .before .if3 .taken)))
+    (failed (m .is-new-marked .ensures ∙ masks-new (l .loop .inv .1 .0) (omega arith) (v .judged .result .masks)) (c .before .if3 .taken)))
 
 mul-masks : tie.Need-mul-masks Inv-loop μ-loop
 mul-masks c = omega arith
@@ -129,10 +129,10 @@ loop-again c =
     let long = gathered-long (inv .1 .1 .0) in
     let before = stored-before masks i x in
     let last = getD-set-same masks i x 0 (omega arith) in (
-      numbered-more validHamiltonians numbers-of _ (inv .0) (omega arith) _
+      fingerprinted-more validHamiltonians fingerprints-of _ (inv .0) (omega arith) _
           (passed-both (v .judged .ensures .0) (g .before .if1 .left) (g .good-coefficient .ensures) (e .if2 .left))
           is
-          (passed (m .is-new-marked .ensures ∙ number-new (inv .1 .0) (omega arith) x) (c .before .if3 .left))
+          (passed (m .is-new-marked .ensures ∙ masks-new (inv .1 .0) (omega arith) x) (c .before .if3 .left))
           before
           last,
       (
@@ -151,7 +151,7 @@ returns-4 : tie.Need-returns-4 Inv-loop μ-loop
 returns-4 c =
     let l = c .before in
     let inv = l .loop .inv in
-    gathered-all (l .before .args .t1) (gathered-done (inv .1 .1 .0) (c .loop-test .left)) (gathered-done (inv .1 .1 .1 .0) (c .loop-test .left)) (numbered-done validHamiltonians numbers-of (inv .0) (c .loop-test .left))
+    gathered-all (l .before .args .t1) (gathered-done (inv .1 .1 .0) (c .loop-test .left)) (gathered-done (inv .1 .1 .1 .0) (c .loop-test .left)) (fingerprinted-done validHamiltonians fingerprints-of (inv .0) (c .loop-test .left))
 
 pub gathered-spec : {M : Type 1} → statement M
 gathered-spec =

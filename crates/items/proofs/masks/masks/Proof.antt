@@ -13,8 +13,8 @@ Inv-loop p count x₀ i₀ x i = Masked (p .sites) (p .letters) count i x
 abbrev μ-loop : tie.MeasureT-loop
 μ-loop p count x₀ i₀ x i = count - i
 
-lettered-requires : tie.Need-lettered-requires Inv-loop μ-loop
-lettered-requires c κs = search needs
+held-count-requires : tie.Need-held-count-requires Inv-loop μ-loop
+held-count-requires c κs = search needs
 
 loop-holds : tie.Need-loop-holds Inv-loop μ-loop
 loop-holds c = masked-none (omega arith)
@@ -38,7 +38,7 @@ loop-again : tie.Need-loop-again Inv-loop μ-loop
 loop-again c = masked-more (c .before .before .before .before .loop .inv) (omega arith) (c .bits-at .ensures)
 
 returns : tie.Need-returns Inv-loop μ-loop
-returns c = masked-done _ (c .before .before .lettered .ensures) (c .before .loop .inv) (c .loop-test .left)
+returns c = masked-done _ (c .before .before .held-count .ensures) (c .before .loop .inv) (c .loop-test .left)
 
 pub masks-spec : {M : Type 1} → statement M
 masks-spec =
@@ -46,7 +46,7 @@ masks-spec =
     (tie.spec
     Inv-loop
     μ-loop
-    lettered-requires
+    held-count-requires
     loop-holds
     element-copy-out-bits-at
     element-copy-out-bits-at-2

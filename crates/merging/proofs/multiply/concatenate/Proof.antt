@@ -7,7 +7,7 @@ use borrow.Author.Tests.{not-true, not-false}
 use Rattle.items.specs.Record.{valid}
 use Rattle.merging.specs.ProductAnswers.{concatenateAnswer}
 use Rattle.items.proofs.RecordLaws.{place-fits}
-use Rattle.merging.proofs.PutLaws.{join-refused, join-done}
+use Rattle.merging.proofs.SiteLaws.{join-refused, join-done}
 use Rattle.merging.proofs.multiply.concatenate.Statement.{statement}
 use Rattle.merging.proofs.multiply.concatenate.Tie as tie
 

@@ -3,7 +3,7 @@
 use Prim.Native.Nat.{_-_}
 use borrow.Author.Needs.{needs}
 use Rattle.items.proofs.RecordLaws.{place-fits}
-use Rattle.merging.proofs.PutLaws.{Clear, clear-none, clear-more, clear-found, clear-done}
+use Rattle.merging.proofs.SiteLaws.{Clear, clear-none, clear-more, clear-found, clear-done}
 use Rattle.merging.proofs.multiply.first_occupied.Statement.{statement}
 use Rattle.merging.proofs.multiply.first_occupied.Tie as tie
 

@@ -6,7 +6,7 @@ use borrow.Author.Needs.{needs}
 use borrow.Author.Tests.{not-true, not-false}
 use Rattle.items.specs.Record.{valid}
 use Rattle.merging.specs.ProductAnswers.{multiplyAnswer}
-use Rattle.merging.proofs.PutLaws.{multiply-done}
+use Rattle.merging.proofs.SiteLaws.{multiply-done}
 use Rattle.merging.proofs.multiply.multiply.Statement.{statement}
 use Rattle.merging.proofs.multiply.multiply.Tie as tie
 

@@ -18,11 +18,11 @@ own : (c : tie.Start) → Held blank (c .args .s .count) (c .args .s .terms)
 own c = held-own noiseSets (c .args .s) (simp length-map at (c .good .0 .1 .1 .1 .0 .1 .0 .1)) (c .pre)
 
 -- the search answered the place of the first term with the key
-place : (c : tie.After-find-from) → c .find-from .result ≡ firstAt (keyed pairTerms (c .before .args .left, c .before .args .right)) (heldBy (c .before .args .s))
+place : (c : tie.After-find) → c .find .result ≡ firstAt (keyed pairTerms (c .before .args .left, c .before .args .right)) (heldBy (c .before .args .s))
 place c = omega arith
 
-find-from-requires : tie.Need-find-from-requires
-find-from-requires c κs = search needs
+find-requires : tie.Need-find-requires
+find-requires c κs = search needs
 
 is-zero-requires : tie.Need-is-zero-requires
 is-zero-requires c κs = search needs
@@ -35,14 +35,14 @@ returns c =
     let f = c .before .before .before .before in
     let a = f .before .args in
     let z = sym (c .before .before .before .is-zero .ensures) ∙ c .before .before .if1 .taken in
-    puts-struck pairTerms noiseSets (a .left, a .right) (a .value) (a .s .count) (a .s .terms) (own (f .before)) (f .find-from .result) (place f) (omega arith) z (c .without .result) (c .without .ensures)
+    puts-struck pairTerms noiseSets (a .left, a .right) (a .value) (a .s .count) (a .s .terms) (own (f .before)) (f .find .result) (place f) (omega arith) z (c .without .result) (c .without .ensures)
 
 returns-2 : tie.Need-returns-2
 returns-2 c =
     let f = c .before .before .before in
     let a = f .before .args in
     let z = sym (c .before .before .is-zero .ensures) ∙ c .before .if1 .taken in
-    puts-free pairTerms noiseSets (a .left, a .right) (a .value) (a .s .count) (a .s .terms) (own (f .before)) (f .find-from .result) (place f) (omega arith) z
+    puts-free pairTerms noiseSets (a .left, a .right) (a .value) (a .s .count) (a .s .terms) (own (f .before)) (f .find .result) (place f) (omega arith) z
 
 mul-t13 : tie.Need-mul-t13
 mul-t13 c = omega (arith, own (c .before .before .before .before))
@@ -55,14 +55,14 @@ returns-3 c =
     let f = c .before .before .before in
     let a = f .before .args in
     let z = sym (c .before .before .is-zero .ensures) ∙ c .before .if1 .left in
-    puts-replaced pairTerms noiseSets (a .left, a .right) (a .value) (a .s .count) (a .s .terms) (own (f .before)) (f .find-from .result) (place f) (omega arith) z
+    puts-replaced pairTerms noiseSets (a .left, a .right) (a .value) (a .s .count) (a .s .terms) (own (f .before)) (f .find .result) (place f) (omega arith) z
 
 returns-4 : tie.Need-returns-4
 returns-4 c =
     let f = c .before .before .before .before in
     let a = f .before .args in
     let z = sym (c .before .before .before .is-zero .ensures) ∙ c .before .before .if1 .left in
-    puts-full pairTerms noiseSets (a .left, a .right) (a .value) (a .s .count) (a .s .terms) (own (f .before)) (f .find-from .result) (place f) (omega arith) z (omega arith)
+    puts-full pairTerms noiseSets (a .left, a .right) (a .value) (a .s .count) (a .s .terms) (own (f .before)) (f .find .result) (place f) (omega arith) z (omega arith)
 
 mul-t18 : tie.Need-mul-t18
 mul-t18 c = search needs
@@ -78,13 +78,13 @@ returns-5 c =
     let f = c .before .before .before .before in
     let a = f .before .args in
     let z = sym (c .before .before .before .is-zero .ensures) ∙ c .before .before .if1 .left in
-    puts-appended pairTerms noiseSets (a .left, a .right) (a .value) (a .s .count) (a .s .terms) (own (f .before)) (f .find-from .result) (place f) (omega arith) z (omega arith)
+    puts-appended pairTerms noiseSets (a .left, a .right) (a .value) (a .s .count) (a .s .terms) (own (f .before)) (f .find .result) (place f) (omega arith) z (omega arith)
 
 pub put-spec : {M : Type 1} → statement M
 put-spec =
     tie.close
     (tie.spec
-    find-from-requires
+    find-requires
     is-zero-requires
     without-requires
     returns

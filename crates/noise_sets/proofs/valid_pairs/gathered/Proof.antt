@@ -1,5 +1,5 @@
 -- `valid_pairs::gathered`: the terms below i are good, and their masks and coefficients stand in their places (`Masking`); the loop ends at the first
--- term that fails alone, where two numbers repeat, or with none left.
+-- term that fails alone, where masks repeat, or with none left.
 -- Assumes nothing.
 use Prim.Native.Nat.{_-_}
 use mathlib.Core.Path.{_≡_, _∙_}

@@ -11,7 +11,6 @@ use Rattle.terms.proofs.FilledLaws.{filled-places}
 use Rattle.terms.proofs.GatherLaws.{Gathered, gathered-none, gathered-more, gathered-done, gathered-long, values-first}
 use Rattle.term_sets.specs.Complexes as complexes
 use Rattle.hamiltonians.specs.Reals.{complexTerm}
-use Rattle.term_sets.specs.declared.Term.{Term}
 use Rattle.term_sets.specs.declared.TermSet.{TermSet}
 use Rattle.hamiltonians.specs.declared.pauli_hamiltonian.RealTerm.{RealTerm}
 use Rattle.term_sets.proofs.SetLaws.{termSets}

@@ -8,7 +8,7 @@ use Rattle.refusal.specs.Refusals.{carried}
 use Rattle.rows.specs.Calls.{outside}
 use Rattle.rows.proofs.CallLaws.{call-malformed, call-valid, call-spins, call-range, call-outside, call-row}
 use Rattle.noise_sets.specs.Pairs.{heldBy}
-use Rattle.noise_sets.specs.Pairs.{itemsOf}
+use Rattle.noise_sets.specs.Pairs.{sidesOf}
 use Rattle.open_rows.specs.NoiseRows.{noiseRow}
 use Rattle.outside_sites.proofs.AcceptedLaws.{accepted, noise-valid}
 use Rattle.row_entries.proofs.EntryLaws.{square-few}
@@ -90,7 +90,7 @@ returns-5 c =
     let p = pairs-given _ m v in
     let few = f .if2 .left in
     let size = square-few _ few (g .before .superoperator-size .ensures) in
-    let none : [] ≡ outside (a .spins) (itemsOf l) =
+    let none : [] ≡ outside (a .spins) (sidesOf l) =
     ⊎-elim
     (λ w. ap carried (sym (w .3 .given .1)) ∙ w .1 .ensures)
     (λ w. sym (c .before .before .before .before .before .before .before .before .before .before .before .before .before .before .before .before .before .pairs-fit .ensures (not-false _ (w .left)) l (noise-valid _ v) (p .count) (p .left-products) (p .right-products)))

@@ -9,7 +9,7 @@ use Rattle.rows.specs.Buffers.{Long}
 use Rattle.noise_sets.specs.Pairs.{blank}
 use Rattle.outside_sites.specs.Accepted.{Accepted}
 use Rattle.open_rows.specs.Masked.{MaskedPairs}
-use Rattle.noise_sets.specs.Pairs.{itemsOf}
+use Rattle.noise_sets.specs.Pairs.{sidesOf}
 use Rattle.contributions.specs.TermContributions.{noisePart, noiseContributions}
 use Rattle.contributions.proofs.ValueLaws.{written-long}
 use Rattle.contributions.proofs.WritingLaws.{noise-written}
@@ -19,7 +19,7 @@ use Rattle.open_rows.proofs.writing.write_noise.Tie as tie
 
 abbrev Inv-loop : tie.InvT-loop
 Inv-loop lefts rights res ims n spins row columns₀ re₀ im₀ i₀ columns re im i =
-    WritingEach (λ l. Long columns₀ re₀ im₀ × MaskedPairs lefts rights res ims n l × Accepted spins (2 ^ spins * 2 ^ spins) row (itemsOf l)) (noisePart spins row) n columns re im (3 * i) i
+    WritingEach (λ l. Long columns₀ re₀ im₀ × MaskedPairs lefts rights res ims n l × Accepted spins (2 ^ spins * 2 ^ spins) row (sidesOf l)) (noisePart spins row) n columns re im (3 * i) i
 
 abbrev μ-loop : tie.MeasureT-loop
 μ-loop lefts rights res ims n spins row columns₀ re₀ im₀ i₀ columns re im i = n - i

@@ -1,13 +1,13 @@
--- `put::get`: each return goes with the tests that led to it.
+-- `site::get`: each return goes with the tests that led to it.
 -- Assumes nothing.
 use mathlib.Core.Path.{sym, _∙_}
 use borrow.Author.Needs.{needs}
 use borrow.Author.Tests.{lt-ltb, not-true, not-false}
 use Rattle.items.specs.Record.{highestSite}
 use Rattle.merging.specs.SiteAnswers.{getAnswer}
-use Rattle.merging.proofs.PutLaws.{get-free, get-letter}
-use Rattle.merging.proofs.put.get.Statement.{statement}
-use Rattle.merging.proofs.put.get.Tie as tie
+use Rattle.merging.proofs.SiteLaws.{get-free, get-letter}
+use Rattle.merging.proofs.site.get.Statement.{statement}
+use Rattle.merging.proofs.site.get.Tie as tie
 
 is-valid-requires : tie.Need-is-valid-requires
 is-valid-requires c κs = search needs

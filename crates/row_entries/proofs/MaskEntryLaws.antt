@@ -22,7 +22,7 @@ use Rattle.letters.proofs.TestLaws.{every-at}
 use Rattle.letters.proofs.BitLaws.{bit-lt, binary-lt, low-suc}
 use Rattle.items.specs.Record.{valid, letterAt, reach}
 use Rattle.items.specs.Masks.{letterBits, masksOf, flipOf, signOf}
-use Rattle.row_entries.specs.Walks.{turnOf, walkOf}
+use Rattle.row_entries.specs.MaskEntries.{powerOfY, entryFromMasks}
 use Rattle.items.specs.declared.Items.{Items}
 use Rattle.items.proofs.MaskLaws.{flipBit, signBit, flip-lt, sign-lt, flips, signs, letter-lt, flips-masked, signs-masked}
 
@@ -30,10 +30,10 @@ use Rattle.items.proofs.MaskLaws.{flipBit, signBit, flip-lt, sign-lt, flips, si
 
 -- the power of i of the bits x turned over, the bits z of a sign and the row r, for one letter or many
 abbrev powerBy : Letters → ℕ → ℕ → ℕ → ℕ
-powerBy M x z r = turnOf M * ones (bitAnd x z) + 2 * ones (bitAnd r z)
+powerBy M x z r = powerOfY M * ones (bitAnd x z) + 2 * ones (bitAnd r z)
 
 cell-found : (kind : Kind) → every 8 (λ k. eqb (cell (lettersOf kind) (k / 2) (k % 2)) (2 * (powerBy (lettersOf kind) (flipBit (k / 2)) (signBit (k / 2)) (k % 2) % 4) + bitXor (k % 2) (flipBit (k / 2)))) ≡ true
-unfolding turnOf letterBits ones onesIn cell every firstFrom eqG eqℤ two-by-two pauli decoherence lettersOf i^ 𝟘 𝟙 −𝟙 i⁺ i⁻ _⊗_
+unfolding powerOfY letterBits ones onesIn cell every firstFrom eqG eqℤ two-by-two pauli decoherence lettersOf i^ 𝟘 𝟙 −𝟙 i⁺ i⁻ _⊗_
 cell-found Pauli = refl
 cell-found Decoherence = refl
 
@@ -82,15 +82,15 @@ module _ (kind : Kind) (f : ℕ → ℕ) (code : (s : ℕ) → f s < 4) (r : ℕ
 
   power-masked : (n : ℕ) → rowPower (lettersOf kind) n f r ≡ powerBy (lettersOf kind) (flips f n) (signs f n) (r % 2 ^ n) % 4
   unfolding rowPower total ones onesIn
-  power-masked zero = rw (and-zero-r (r % 1), mul-zero (turnOf (lettersOf kind))) refl
+  power-masked zero = rw (and-zero-r (r % 1), mul-zero (powerOfY (lettersOf kind))) refl
   power-masked (suc n) =
       let M = lettersOf kind in
       let x = flipBit (f n) in
       let z = signBit (f n) in
       let F : flips f n < 2 ^ n = binary-lt n (λ s. flipBit (f s)) (λ s h. flip-lt (f s) (code s)) in
       let S : signs f n < 2 ^ n = binary-lt n (λ s. signBit (f s)) (λ s h. sign-lt (f s) (code s)) in
-      step (turnOf M) _ _ _ _ _ _ (power-masked n) (cell-power kind (f n) (bit n r) (code n) (bit-lt n r))
-      ∙ ap₂ (λ a b. (turnOf M * a + 2 * b) % 4)
+      step (powerOfY M) _ _ _ _ _ _ (power-masked n) (cell-power kind (f n) (bit n r) (code n) (bit-lt n r))
+      ∙ ap₂ (λ a b. (powerOfY M * a + 2 * b) % 4)
       (sym (ones-more n (flips f n) (signs f n) x z F S))
       (sym (ones-more n (r % 2 ^ n) (signs f n) (bit n r) z (mod-lt r (pow-pos n)) S) ∙ ap (λ a. ones (bitAnd a (signs f n + z * 2 ^ n))) (sym (low-suc n r)))
     where
@@ -103,63 +103,63 @@ module _ (kind : Kind) (f : ℕ → ℕ) (code : (s : ℕ) → f s < 4) (r : ℕ
 -- ---- the entry of a record's row
 
 -- the power of i of Y, by kind
-pub turn-pauli : turnOf pauli ≡ 3
-unfolding turnOf cell firstFrom eqG eqℤ two-by-two pauli i^ 𝟘 𝟙 −𝟙 i⁺ i⁻ _⊗_
-turn-pauli = refl
+pub power-of-y-pauli : powerOfY pauli ≡ 3
+unfolding powerOfY cell firstFrom eqG eqℤ two-by-two pauli i^ 𝟘 𝟙 −𝟙 i⁺ i⁻ _⊗_
+power-of-y-pauli = refl
 
-pub turn-decoherence : turnOf decoherence ≡ 0
-unfolding turnOf cell firstFrom eqG eqℤ two-by-two decoherence i^ 𝟘 𝟙 −𝟙 i⁺ i⁻ _⊗_
-turn-decoherence = refl
+pub power-of-y-decoherence : powerOfY decoherence ≡ 0
+unfolding powerOfY cell firstFrom eqG eqℤ two-by-two decoherence i^ 𝟘 𝟙 −𝟙 i⁺ i⁻ _⊗_
+power-of-y-decoherence = refl
 
-abbrev turns : Kind → ℕ
-turns Pauli = 3
-turns Decoherence = 0
+abbrev yPower : Kind → ℕ
+yPower Pauli = 3
+yPower Decoherence = 0
 
-turn-found : (kind : Kind) → turns kind ≡ turnOf (lettersOf kind)
+power-of-y-found : (kind : Kind) → yPower kind ≡ powerOfY (lettersOf kind)
 unfolding lettersOf
-turn-found Pauli = sym turn-pauli
-turn-found Decoherence = sym turn-decoherence
+power-of-y-found Pauli = sym power-of-y-pauli
+power-of-y-found Decoherence = sym power-of-y-decoherence
 
-pub turn-is : {kind kind′ : Kind} {t : ℕ} → kind ≡ kind′ → t ≡ turns kind′ → t ≡ turnOf (lettersOf kind)
-turn-is {kind} e t = t ∙ ap turns (sym e) ∙ turn-found kind
+pub power-of-y-is : {kind kind′ : Kind} {t : ℕ} → kind ≡ kind′ → t ≡ yPower kind′ → t ≡ powerOfY (lettersOf kind)
+power-of-y-is {kind} e t = t ∙ ap yPower (sym e) ∙ power-of-y-found kind
 
-turn-most : (kind : Kind) → turnOf (lettersOf kind) ≤ 3
-turn-most kind = rw (← turn-found kind) (go kind)
+power-of-y-most : (kind : Kind) → powerOfY (lettersOf kind) ≤ 3
+power-of-y-most kind = rw (← power-of-y-found kind) (go kind)
   where
-    go : (kind : Kind) → turns kind ≤ 3
+    go : (kind : Kind) → yPower kind ≤ 3
     go Pauli = omega arith
     go Decoherence = omega arith
 
 -- the counts of the code fit
 pub record Counts (t m r : ℕ) : Type 0 where
-  pub turned : t * ones (bitAnd (m % 2 ^ 32) (m / 2 ^ 32)) < 2 ^ 32
+  pub of-ys : t * ones (bitAnd (m % 2 ^ 32) (m / 2 ^ 32)) < 2 ^ 32
   pub doubled : 2 * ones (bitAnd r (m / 2 ^ 32)) < 2 ^ 32
   pub both : t * ones (bitAnd (m % 2 ^ 32) (m / 2 ^ 32)) + 2 * ones (bitAnd r (m / 2 ^ 32)) < 2 ^ 32
 
-pub counts-fit : {t : ℕ} (kind : Kind) (m r : ℕ) → t ≡ turnOf (lettersOf kind) → r < 2 ^ 64 → Counts t m r
+pub counts-fit : {t : ℕ} (kind : Kind) (m r : ℕ) → t ≡ powerOfY (lettersOf kind) → r < 2 ^ 64 → Counts t m r
 counts-fit {t} kind m r e h =
-    let few : t ≤ 3 = rw e (turn-most kind) in
+    let few : t ≤ 3 = rw e (power-of-y-most kind) in
     let low : m % 2 ^ 32 < 2 ^ 32 = mod-lt m (omega arith) in
     let ys : t * ones (bitAnd (m % 2 ^ 32) (m / 2 ^ 32)) ≤ 3 * 32 = mul-le-mul few (ones-le 32 _ (lt-of-le-of-lt (and-le-l (m % 2 ^ 32) (m / 2 ^ 32)) low)) in
     let minuses : ones (bitAnd r (m / 2 ^ 32)) ≤ 64 = ones-le 64 _ (lt-of-le-of-lt (and-le-l r (m / 2 ^ 32)) h) in
-    record { turned = omega arith; doubled = omega arith; both = omega arith }
+    record { of-ys = omega arith; doubled = omega arith; both = omega arith }
 
 -- what the code finds
-pub walk-found : (M : Letters) (m r : ℕ) {t : ℕ} → t ≡ turnOf M
-    → _≡_ {A = ℕ × ℕ} (bitXor r (m % 2 ^ 32), (t * ones (bitAnd (m % 2 ^ 32) (m / 2 ^ 32)) + 2 * ones (bitAnd r (m / 2 ^ 32))) % 4) (walkOf M m r)
-unfolding walkOf flipOf signOf
-walk-found M m r t = rw t
+pub from-masks-found : (M : Letters) (m r : ℕ) {t : ℕ} → t ≡ powerOfY M
+    → _≡_ {A = ℕ × ℕ} (bitXor r (m % 2 ^ 32), (t * ones (bitAnd (m % 2 ^ 32) (m / 2 ^ 32)) + 2 * ones (bitAnd r (m / 2 ^ 32))) % 4) (entryFromMasks M m r)
+unfolding entryFromMasks flipOf signOf
+from-masks-found M m r t = rw t
 
 -- its power is below 4
-pub walk-power-lt : (M : Letters) (m r : ℕ) → walkOf M m r .1 < 4
-unfolding walkOf
-walk-power-lt M m r = mod-lt _ (omega arith)
+pub from-masks-power-lt : (M : Letters) (m r : ℕ) → entryFromMasks M m r .1 < 4
+unfolding entryFromMasks
+from-masks-power-lt M m r = mod-lt _ (omega arith)
 
 -- of a valid record it is that of its letters
-pub walk-inside : (kind : Kind) (p : Items) → valid p ≡ true → (r : ℕ) → r < 2 ^ 31 → (n : ℕ) → reach p ≤ n → r < 2 ^ n
-    → walkOf (lettersOf kind) (masksOf p) r ≡ (columnOf (lettersOf kind) n (letterAt p) r, rowPower (lettersOf kind) n (letterAt p) r)
-unfolding walkOf
-walk-inside kind p v r small n in-n row-n =
+pub from-masks-inside : (kind : Kind) (p : Items) → valid p ≡ true → (r n : ℕ) → reach p ≤ n → r < 2 ^ n
+    → entryFromMasks (lettersOf kind) (masksOf p) r ≡ (columnOf (lettersOf kind) n (letterAt p) r, rowPower (lettersOf kind) n (letterAt p) r)
+unfolding entryFromMasks
+from-masks-inside kind p v r n in-n row-n =
     let f = letterAt p in
     let code : (s : ℕ) → f s < 4 = letter-lt p v in
     let row : r % 2 ^ n ≡ r = mod-eq-of-lt row-n in

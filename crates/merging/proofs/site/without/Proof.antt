@@ -1,11 +1,11 @@
--- `put::without`: below a bound the record has the letters of the places passed, without the site's.
+-- `site::without`: below a bound the record has the letters of the places passed, without the site's.
 -- Assumes nothing.
 use Prim.Native.Nat.{_-_}
 use borrow.Author.Needs.{needs}
 use Rattle.items.proofs.RecordLaws.{place-fits}
-use Rattle.merging.proofs.PutLaws.{Freed, freed-none, freed-room, freed-more, freed-done}
-use Rattle.merging.proofs.put.without.Statement.{statement}
-use Rattle.merging.proofs.put.without.Tie as tie
+use Rattle.merging.proofs.SiteLaws.{Freed, freed-none, freed-room, freed-more, freed-done}
+use Rattle.merging.proofs.site.without.Statement.{statement}
+use Rattle.merging.proofs.site.without.Tie as tie
 
 abbrev Inv-loop : tie.InvT-loop
 Inv-loop site p count out₀ i₀ out i = Freed p site i out

@@ -1,9 +1,9 @@
--- `put::kept_letter`: the test tells whether the place has the site; the record is valid, so elsewhere its letter is its site's.
+-- `site::kept_letter`: the test tells whether the place has the site; the record is valid, so elsewhere its letter is its site's.
 -- Assumes nothing.
 use Rattle.items.proofs.RecordLaws.{place-fits}
-use Rattle.merging.proofs.PutLaws.{kept-here, kept-other}
-use Rattle.merging.proofs.put.kept_letter.Statement.{statement}
-use Rattle.merging.proofs.put.kept_letter.Tie as tie
+use Rattle.merging.proofs.SiteLaws.{kept-here, kept-other}
+use Rattle.merging.proofs.site.kept_letter.Statement.{statement}
+use Rattle.merging.proofs.site.kept_letter.Tie as tie
 
 element-copy-out-if1 : tie.Need-element-copy-out-if1
 element-copy-out-if1 c = place-fits _ _ (c .pre .0) (c .pre .1)

@@ -1,4 +1,4 @@
--- `put::set_pauli`: each return goes with the tests that led to it.
+-- `site::set_pauli`: each return goes with the tests that led to it.
 -- Assumes nothing.
 use mathlib.Core.Path.{sym, _∙_}
 use borrow.Author.Needs.{needs}
@@ -6,9 +6,9 @@ use borrow.Author.Tests.{lt-ltb, le-ltb, not-true, not-false}
 use Rattle.letters.specs.Answers.{highestLetter}
 use Rattle.items.specs.Record.{highestSite}
 use Rattle.merging.specs.SiteAnswers.{setAnswer}
-use Rattle.merging.proofs.PutLaws.{set-done}
-use Rattle.merging.proofs.put.set_pauli.Statement.{statement}
-use Rattle.merging.proofs.put.set_pauli.Tie as tie
+use Rattle.merging.proofs.SiteLaws.{set-done}
+use Rattle.merging.proofs.site.set_pauli.Statement.{statement}
+use Rattle.merging.proofs.site.set_pauli.Tie as tie
 
 is-valid-requires : tie.Need-is-valid-requires
 is-valid-requires c κs = search needs

@@ -1,4 +1,4 @@
--- One page of the reference model: what a refused and an accepted call leave, and when its lines are in range.
+-- The lines of one set in the reference model: what a refused and an accepted call leave, and when its lines are in range.
 -- Assumes nothing.
 use Prim.Native.Nat.{ℕ, _*_, _^_, _≤_}
 use native.Mathlib.Nat.{zero-mul, mul-one}
@@ -23,21 +23,21 @@ use Rattle.condition3.proofs.LineLaws.{linesOf, Faithful, full-is}
 
 -- ---- refused and accepted calls
 
-module _ {K : Type 0} (lawful : Bool) (page : List (Line K)) where
+module _ {K : Type 0} (lawful : Bool) (lines : List (Line K)) where
   -- refused for its arguments
-  pub arguments-refused : lawful ≡ false → (o : Option (List (Line K))) → unlessRefused lawful o page ≡ page
+  pub arguments-refused : lawful ≡ false → (o : Option (List (Line K))) → unlessRefused lawful o lines ≡ lines
   unfolding unlessRefused
   arguments-refused e none = refl
-  arguments-refused e (some l) = ap (λ b. cond (b && linesInRange l) l page) e
+  arguments-refused e (some l) = ap (λ b. cond (b && linesInRange l) l lines) e
 
   -- refused for what would be held
-  pub range-refused : (l : List (Line K)) → linesInRange l ≡ false → unlessRefused lawful (some l) page ≡ page
+  pub range-refused : (l : List (Line K)) → linesInRange l ≡ false → unlessRefused lawful (some l) lines ≡ lines
   unfolding unlessRefused
-  range-refused l e = ap (λ b. cond b l page) (and-false lawful (linesInRange l) e)
+  range-refused l e = ap (λ b. cond b l lines) (and-false lawful (linesInRange l) e)
 
-  pub call-accepted : (l : List (Line K)) → lawful ≡ true → linesInRange l ≡ true → unlessRefused lawful (some l) page ≡ l
+  pub call-accepted : (l : List (Line K)) → lawful ≡ true → linesInRange l ≡ true → unlessRefused lawful (some l) lines ≡ l
   unfolding unlessRefused
-  call-accepted l e r = ap (λ b. cond b l page) (and-true e r)
+  call-accepted l e r = ap (λ b. cond b l lines) (and-true e r)
 
 pub full-refused : {K : Type 0} (l : List (Line K)) → ltb mostTerms (length l) ≡ true → unlessFull l ≡ none
 unfolding unlessFull
@@ -83,7 +83,7 @@ appended-out same k z (x ∷ xs) e = go (same (x .0) k) (appended-out same k z x
     go true h = ap (λ b. b && linesInRange xs) e
     go false h = and-false (inRange (x .1)) (linesInRange (replaceOrAppend same k z xs)) h
 
--- a coefficient out of range, once on the page, is out of range there
+-- a coefficient out of range, once written, is out of range there
 pub written-out : {K : Type 0} (same : K → K → Bool) (k : K) (z : Complex) (l : List (Line K)) → inRange z ≡ false → linesInRange (writeLine same k z l) ≡ false
 unfolding writeLine
 written-out same k z l e = go (isZero z) refl
@@ -92,30 +92,30 @@ written-out same k z l e = go (isZero z) refl
     go true t = absurd (clash (sym (zero-in-range z t) ∙ e))
     go false t = appended-out same k z l e
 
--- ---- a call that writes b under k on the page of the terms l: `page` is what it makes of it
+-- ---- a call that writes b under k among the lines of the terms l: `lines` is what it makes of them
 
-module _ {K N : Type 0} (S : Terms K N) (parts : N → Complex) (F : Faithful S parts) (lawful : Bool) (k : K) (b : N) (l : List (S .Term)) (page : List (Line K)) (is : linesOf S parts (write S k b l) ≡ page) where
+module _ {K N : Type 0} (S : Terms K N) (parts : N → Complex) (F : Faithful S parts) (lawful : Bool) (k : K) (b : N) (l : List (S .Term)) (lines : List (Line K)) (is : linesOf S parts (write S k b l) ≡ lines) where
   abbrev before : List (Line K)
   before = linesOf S parts l
 
   abbrev afterwards : List (Line K)
-  afterwards = unlessRefused lawful (unlessFull page) before
+  afterwards = unlessRefused lawful (unlessFull lines) before
 
-  long-is : length l ≤ mostTerms → not (hasRoom S k b l) ≡ ltb mostTerms (length page)
+  long-is : length l ≤ mostTerms → not (hasRoom S k b l) ≡ ltb mostTerms (length lines)
   long-is few = full-is S parts F k b l few ∙ ap (λ x. ltb mostTerms (length x)) is
 
   pub kept-full : length l ≤ mostTerms → hasRoom S k b l ≡ false → before ≡ afterwards
   unfolding unlessRefused
-  kept-full few e = sym (ap (λ o. unlessRefused lawful o before) (full-refused page (sym (long-is few) ∙ ap not e)))
+  kept-full few e = sym (ap (λ o. unlessRefused lawful o before) (full-refused lines (sym (long-is few) ∙ ap not e)))
 
-  pub kept-out : linesInRange page ≡ false → before ≡ afterwards
+  pub kept-out : linesInRange lines ≡ false → before ≡ afterwards
   unfolding unlessRefused
-  kept-out e = go (ltb mostTerms (length page)) refl
+  kept-out e = go (ltb mostTerms (length lines)) refl
     where
-      go : (t : Bool) → ltb mostTerms (length page) ≡ t → before ≡ afterwards
-      go true f = sym (ap (λ o. unlessRefused lawful o before) (full-refused page f))
-      go false f = sym (ap (λ o. unlessRefused lawful o before) (room-left page f) ∙ range-refused lawful before page e)
+      go : (t : Bool) → ltb mostTerms (length lines) ≡ t → before ≡ afterwards
+      go true f = sym (ap (λ o. unlessRefused lawful o before) (full-refused lines f))
+      go false f = sym (ap (λ o. unlessRefused lawful o before) (room-left lines f) ∙ range-refused lawful before lines e)
 
-  pub written-in : length l ≤ mostTerms → lawful ≡ true → hasRoom S k b l ≡ true → linesInRange page ≡ true → linesOf S parts (write S k b l) ≡ afterwards
+  pub written-in : length l ≤ mostTerms → lawful ≡ true → hasRoom S k b l ≡ true → linesInRange lines ≡ true → linesOf S parts (write S k b l) ≡ afterwards
   written-in few g e r =
-      is ∙ sym (ap (λ o. unlessRefused lawful o before) (room-left page (sym (long-is few) ∙ ap not e)) ∙ call-accepted lawful before page g r)
+      is ∙ sym (ap (λ o. unlessRefused lawful o before) (room-left lines (sym (long-is few) ∙ ap not e)) ∙ call-accepted lawful before lines g r)

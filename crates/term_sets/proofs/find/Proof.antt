@@ -1,24 +1,27 @@
--- The loop's invariant: no place from `from` on that is below i has the key (`Searched`).
+-- The loop's invariant: no place below i has the key (`Searched`).
 use borrow.Author.Needs.{needs}
 use native.Mathlib.Omega.{arith}
 use Prim.Native.Nat.{_-_}
 use mathlib.Core.Path.{_≡_, sym, _∙_}
 use lib.ListN.{length, length-map}
 use Rattle.terms.specs.Setting.{keyed}
-use Rattle.hamiltonians.specs.Reals.{realTerms}
+use Rattle.term_sets.specs.Complexes.{complexTerms}
 use Rattle.terms.proofs.PlaceLaws.{Searched, searched-none, searched-more, searched-found, searched-done}
-use Rattle.hamiltonians.proofs.pauli_hamiltonian.find_from.Statement.{statement}
-use Rattle.hamiltonians.proofs.pauli_hamiltonian.find_from.Tie as tie
+use Rattle.term_sets.proofs.find.Statement.{statement}
+use Rattle.term_sets.proofs.find.Tie as tie
 
 abbrev Inv-loop : tie.InvT-loop
-Inv-loop from key s n i₀ i = Searched (keyed realTerms key) n (s .terms) from i
+Inv-loop key s n i₀ i = Searched (keyed complexTerms key) (s .count) (s .terms) i
 
 abbrev μ-loop : tie.MeasureT-loop
-μ-loop from key s n i₀ i = n - i
+μ-loop key s n i₀ i = n - i
+
+held-count-requires : tie.Need-held-count-requires Inv-loop μ-loop
+held-count-requires c κs = search needs
 
 loop-holds : tie.Need-loop-holds Inv-loop μ-loop
 loop-holds c =
-    let whole : length (c .args .t1 .terms) ≡ 64 = simp length-map at (c .good .0 .1 .1 .1 .0 .1 .0 .1) in
+    let whole : length (c .before .args .t1 .terms) ≡ 64 = simp length-map at (c .before .good .0 .1 .1 .1 .0 .1 .0 .1) in
     searched-none whole
 
 mul-t : tie.Need-mul-t Inv-loop μ-loop
@@ -49,12 +52,13 @@ loop-again c =
 returns-2 : tie.Need-returns-2 Inv-loop μ-loop
 returns-2 c = searched-done (c .before .loop .inv) (omega arith)
 
-pub find-from-spec : {M : Type 1} → statement M
-find-from-spec =
+pub find-spec : {M : Type 1} → statement M
+find-spec =
     tie.close
     (tie.spec
     Inv-loop
     μ-loop
+    held-count-requires
     loop-holds
     mul-t
     element-copy-out-t

@@ -1,20 +1,20 @@
--- The loop's invariant: no place from `from` on that is below i has the key (`Searched`).
+-- The loop's invariant: no place below i has the key (`Searched`).
 use borrow.Author.Needs.{needs}
 use native.Mathlib.Omega.{arith}
 use Prim.Native.Nat.{_-_}
 use mathlib.Core.Path.{_≡_, sym, _∙_}
 use lib.ListN.{length, length-map}
 use Rattle.terms.specs.Setting.{keyed}
-use Rattle.term_sets.specs.Complexes.{complexTerms}
+use Rattle.noise_sets.specs.Pairs.{pairTerms}
 use Rattle.terms.proofs.PlaceLaws.{Searched, searched-none, searched-more, searched-found, searched-done}
-use Rattle.term_sets.proofs.find_from.Statement.{statement}
-use Rattle.term_sets.proofs.find_from.Tie as tie
+use Rattle.noise_sets.proofs.find.Statement.{statement}
+use Rattle.noise_sets.proofs.find.Tie as tie
 
 abbrev Inv-loop : tie.InvT-loop
-Inv-loop from key s n i₀ i = Searched (keyed complexTerms key) (s .count) (s .terms) from i
+Inv-loop left right s n i₀ i = Searched (keyed pairTerms (left, right)) (s .count) (s .terms) i
 
 abbrev μ-loop : tie.MeasureT-loop
-μ-loop from key s n i₀ i = n - i
+μ-loop left right s n i₀ i = n - i
 
 held-count-requires : tie.Need-held-count-requires Inv-loop μ-loop
 held-count-requires c κs = search needs
@@ -30,13 +30,13 @@ mul-t c = omega arith
 element-copy-out-t : tie.Need-element-copy-out-t Inv-loop μ-loop
 element-copy-out-t c = omega arith
 
-same-requires : tie.Need-same-requires Inv-loop μ-loop
-same-requires c κs = search needs
+has-key-requires : tie.Need-has-key-requires Inv-loop μ-loop
+has-key-requires c κs = search needs
 
 returns : tie.Need-returns Inv-loop μ-loop
 returns c =
-    let l = c .before .before .before .before .before in
-    searched-found _ (l .loop .inv) (omega arith) (sym (c .before .same .ensures) ∙ c .if1 .taken)
+    let l = c .before .before .before .before in
+    searched-found _ (l .loop .inv) (omega arith) (sym (c .before .has-key .ensures) ∙ c .if1 .taken)
 
 add-i : tie.Need-add-i Inv-loop μ-loop
 add-i c = omega arith
@@ -46,14 +46,14 @@ loop-less c = omega arith
 
 loop-again : tie.Need-loop-again Inv-loop μ-loop
 loop-again c =
-    let l = c .before .before .before .before .before in
-    searched-more _ (l .loop .inv) (omega arith) (sym (c .before .same .ensures) ∙ c .if1 .left)
+    let l = c .before .before .before .before in
+    searched-more _ (l .loop .inv) (omega arith) (sym (c .before .has-key .ensures) ∙ c .if1 .left)
 
 returns-2 : tie.Need-returns-2 Inv-loop μ-loop
 returns-2 c = searched-done (c .before .loop .inv) (omega arith)
 
-pub find-from-spec : {M : Type 1} → statement M
-find-from-spec =
+pub find-spec : {M : Type 1} → statement M
+find-spec =
     tie.close
     (tie.spec
     Inv-loop
@@ -62,7 +62,7 @@ find-from-spec =
     loop-holds
     mul-t
     element-copy-out-t
-    same-requires
+    has-key-requires
     returns
     add-i
     loop-less

@@ -1,5 +1,5 @@
--- A loop that judges a set's terms one after the other, for any kind of set: each term alone, and by a number of its key, which the same keys
--- share, against the numbers of the terms before it. The numbers stand in an array or in several, and `read j` is the one of place j.
+-- A loop that judges a set's terms one after the other, for any kind of set: each term alone, and by a fingerprint of its key, which the
+-- same keys share, against those of the terms before it. The fingerprints stand in an array or in several, and `read j` is the one of place j.
 -- Assumes nothing.
 use Prim.Native.Nat.{ℕ, suc, _+_, _-_, _≤_, _<_}
 use native.Mathlib.Nat.{le-antisymm, eq-or-lt-of-le}
@@ -24,21 +24,21 @@ use Rattle.terms.proofs.EachLaws.{getD-any}
 use Rattle.terms.proofs.GoodLaws.{good-key, good-coefficient, good-different}
 use Rattle.terms.proofs.ValidSetLaws.{ValidSets}
 
--- a number of each key, and a test of two numbers that the same keys' numbers pass
-pub record Numbers {K N : Type 0} (S : Terms K N) (B : Type 0) : Type 0 where
-  pub number : K → B
+-- a fingerprint of each key, and a test of two that those of the same keys pass
+pub record Fingerprints {K N : Type 0} (S : Terms K N) (B : Type 0) : Type 0 where
+  pub fingerprint : K → B
   pub same : B → B → Bool
-  pub shared : (x y : K) → S .same x y ≡ true → same (number y) (number x) ≡ true
+  pub shared : (x y : K) → S .same x y ≡ true → same (fingerprint y) (fingerprint x) ≡ true
 
 module _ {K N : Type 0} (S : Terms K N) (equal : (x y : K) → S .same x y ≡ true → x ≡ y) where
-  -- where only equal keys are the same: any number of a key, or two
-  abbrev pub oneNumber : (K → ℕ) → Numbers S ℕ
-  oneNumber f = record { number = f; same = eqb; shared = λ x y e. eq-eqb (f y) (f x) (ap f (sym (equal x y e))) }
+  -- where only equal keys are the same: any one number of a key, or two
+  abbrev pub oneFingerprint : (K → ℕ) → Fingerprints S ℕ
+  oneFingerprint f = record { fingerprint = f; same = eqb; shared = λ x y e. eq-eqb (f y) (f x) (ap f (sym (equal x y e))) }
 
-  abbrev pub twoNumbers : (K → ℕ) → (K → ℕ) → Numbers S (ℕ × ℕ)
-  twoNumbers f g =
+  abbrev pub twoFingerprints : (K → ℕ) → (K → ℕ) → Fingerprints S (ℕ × ℕ)
+  twoFingerprints f g =
       record {
-        number = λ k. (f k, g k);
+        fingerprint = λ k. (f k, g k);
         same = λ a b. eqb (a .0) (b .0) && eqb (a .1) (b .1);
         shared =
             λ x y e.
@@ -46,7 +46,7 @@ module _ {K N : Type 0} (S : Terms K N) (equal : (x y : K) → S .same x y ≡ t
             and-true (eq-eqb (f y) (f x) (ap f q)) (eq-eqb (g y) (g x) (ap g q));
       }
 
--- a number stored at i: the earlier places stay as they were
+-- one stored at i: the earlier places stay as they were
 pub stored-before : (l : List ℕ) (i x j : ℕ) → j < i → getD (set l i x) j 0 ≡ getD l j 0
 stored-before l i x j h = getD-set-other l i j x 0 (λ e. omega arith)
 
@@ -80,32 +80,32 @@ module _ {K N : Type 0} (S : Terms K N) (goodKey : K → Bool) (goodCoefficient 
       (good-by x (l ++ t ∷ []) (good-alone x l g) (has-last (keyed S (S .key x)) t l once (f 0 (omega arith))))
       (good-last d t l a (λ j h. f (suc j) (omega arith)) (each-tail good x l e))
 
--- ---- the loop: the terms below i are good, and their numbers stand in their places
+-- ---- the loop: the terms below i are good, and their fingerprints stand in their places
 
-module _ {K N R B : Type 0} {S : Terms K N} (W : ValidSets S R) (M : Numbers S B) where
+module _ {K N R B : Type 0} {S : Terms K N} (W : ValidSets S R) (M : Fingerprints S B) where
   abbrev fine : S .Term → List (S .Term) → Bool
   fine = goodTerm S (W .goodKey) (W .goodCoefficient)
 
-  pub record Numbered (s : R) (read : ℕ → B) (i : ℕ) : Type 0 where
+  pub record Fingerprinted (s : R) (read : ℕ → B) (i : ℕ) : Type 0 where
     pub whole : length (W .sets .places s) ≡ mostTerms
     pub few : W .sets .count s ≤ mostTerms
     pub within : i ≤ W .sets .count s
     pub judged : each fine (take i (W .sets .places s)) ≡ true
-    pub stored : (j : ℕ) → j < i → read j ≡ M .number (S .key (getD (W .sets .places s) j (W .sets .blank)))
+    pub stored : (j : ℕ) → j < i → read j ≡ M .fingerprint (S .key (getD (W .sets .places s) j (W .sets .blank)))
 
   module _ {s : R} {read : ℕ → B} where
-    pub numbered-none : length (W .sets .places s) ≡ mostTerms → W .sets .count s ≤ mostTerms → Numbered s read 0
+    pub fingerprinted-none : length (W .sets .places s) ≡ mostTerms → W .sets .count s ≤ mostTerms → Fingerprinted s read 0
     unfolding each
-    numbered-none whole few = record { whole = whole; few = few; within = omega arith; judged = refl; stored = λ j h. absurd (omega arith) }
+    fingerprinted-none whole few = record { whole = whole; few = few; within = omega arith; judged = refl; stored = λ j h. absurd (omega arith) }
 
     -- the term at i, which code reads as `getD (s .terms) i d`
-    module _ {i : ℕ} (d : S .Term) (c : Numbered s read i) (h : i < W .sets .count s) where
+    module _ {i : ℕ} (d : S .Term) (c : Fingerprinted s read i) (h : i < W .sets .count s) where
       abbrev this : S .Term
       this = getD (W .sets .places s) i d
 
       -- it fails alone
-      pub numbered-failed : alone S (W .goodKey) (W .goodCoefficient) this ≡ false → false ≡ each fine (take (W .sets .count s) (W .sets .places s))
-      numbered-failed a =
+      pub fingerprinted-failed : alone S (W .goodKey) (W .goodCoefficient) this ≡ false → false ≡ each fine (take (W .sets .count s) (W .sets .places s))
+      fingerprinted-failed a =
           let l = take (W .sets .count s) (W .sets .places s) in
           let long = length-take-le (W .sets .count s) (W .sets .places s) (omega (arith, c .whole, c .few)) in
           let is = getD-take (W .sets .count s) (W .sets .places s) i d h in
@@ -114,10 +114,10 @@ module _ {K N R B : Type 0} {S : Terms K N} (W : ValidSets S R) (M : Numbers S B
           ∙ ap (alone S (W .goodKey) (W .goodCoefficient)) is ∙ a)))
           (λ e. e))
 
-      -- it passes, and none of the terms before it has its number, which is stored at i
-      pub numbered-more : {x : B} (new : ℕ → B) → alone S (W .goodKey) (W .goodCoefficient) this ≡ true → x ≡ M .number (S .key this)
-          → every i (λ j. not (M .same (read j) x)) ≡ true → ((j : ℕ) → j < i → new j ≡ read j) → new i ≡ x → Numbered s new (i + 1)
-      numbered-more {x} new a e fresh before last =
+      -- it passes, and none of the terms before it has its fingerprint, which is stored at i
+      pub fingerprinted-more : {x : B} (new : ℕ → B) → alone S (W .goodKey) (W .goodCoefficient) this ≡ true → x ≡ M .fingerprint (S .key this)
+          → every i (λ j. not (M .same (read j) x)) ≡ true → ((j : ℕ) → j < i → new j ≡ read j) → new i ≡ x → Fingerprinted s new (i + 1)
+      fingerprinted-more {x} new a e fresh before last =
           record {
             whole = c .whole;
             few = c .few;
@@ -138,25 +138,25 @@ module _ {K N R B : Type 0} {S : Terms K N} (W : ValidSets S R) (M : Numbers S B
           other : (j : ℕ) → j < i → S .same (S .key this) (S .key (getD (take i (W .sets .places s)) j (W .sets .blank))) ≡ false
           other j l =
               let y = S .key (getD (W .sets .places s) j (W .sets .blank)) in
-              let p : M .number y ≡ read j = sym (c .stored j l) in
-              let q : M .number (S .key this) ≡ x = sym e in
+              let p : M .fingerprint y ≡ read j = sym (c .stored j l) in
+              let q : M .fingerprint (S .key this) ≡ x = sym e in
               ap (λ (t : S .Term). S .same (S .key this) (S .key t)) (getD-take i (W .sets .places s) j (W .sets .blank) l)
               ∙ by-test (S .same (S .key this) y)
               (λ t. absurd (true≢false (sym (M .shared (S .key this) y t) ∙ (λ k. M .same (p k) (q k)) ∙ not-true (M .same (read j) x) (every-at i (λ j. not (M .same (read j) x)) fresh j l))))
               (λ t. t)
 
-          stored : (j : ℕ) → j < i + 1 → new j ≡ M .number (S .key (getD (W .sets .places s) j (W .sets .blank)))
+          stored : (j : ℕ) → j < i + 1 → new j ≡ M .fingerprint (S .key (getD (W .sets .places s) j (W .sets .blank)))
           stored j l =
               let b : j ≤ i = omega arith in
               ⊎-elim
-              (λ q. ap new q ∙ last ∙ e ∙ ap (λ (t : S .Term). M .number (S .key t)) (getD-any (W .sets .places s) i d (W .sets .blank) inside ∙ ap (λ (k : ℕ). getD (W .sets .places s) k (W .sets .blank)) (sym q)))
+              (λ q. ap new q ∙ last ∙ e ∙ ap (λ (t : S .Term). M .fingerprint (S .key t)) (getD-any (W .sets .places s) i d (W .sets .blank) inside ∙ ap (λ (k : ℕ). getD (W .sets .places s) k (W .sets .blank)) (sym q)))
               (λ q. before j q ∙ c .stored j q)
               (eq-or-lt-of-le b)
 
-      -- its number repeats, where good keys with one number are the same
-      pub numbered-again : {x : B} → ((k m : K) → W .goodKey k ≡ true → W .goodKey m ≡ true → M .same (M .number m) (M .number k) ≡ true → S .same k m ≡ true)
-          → x ≡ M .number (S .key this) → every i (λ j. not (M .same (read j) x)) ≡ false → false ≡ each fine (take (W .sets .count s) (W .sets .places s))
-      numbered-again {x} one e seen =
+      -- its fingerprint repeats, where good keys with one fingerprint are the same
+      pub fingerprinted-again : {x : B} → ((k m : K) → W .goodKey k ≡ true → W .goodKey m ≡ true → M .same (M .fingerprint m) (M .fingerprint k) ≡ true → S .same k m ≡ true)
+          → x ≡ M .fingerprint (S .key this) → every i (λ j. not (M .same (read j) x)) ≡ false → false ≡ each fine (take (W .sets .count s) (W .sets .places s))
+      fingerprinted-again {x} one e seen =
           sym (by-test (each fine l)
           (λ g. absurd (true≢false (sym (every-intro i (λ j. not (M .same (read j) x)) (λ j b. ap not (other g j b))) ∙ seen)))
           (λ g. g))
@@ -167,7 +167,7 @@ module _ {K N R B : Type 0} {S : Terms K N} (W : ValidSets S R) (M : Numbers S B
           long : length l ≡ W .sets .count s
           long = length-take-le (W .sets .count s) (W .sets .places s) (omega (arith, c .whole, c .few))
 
-          -- if each were good, an earlier one would have another number
+          -- if each were good, an earlier one would have another fingerprint
           other : each fine l ≡ true → (j : ℕ) → j < i → M .same (read j) x ≡ false
           other g j b =
               let y = getD l j (W .sets .blank) in
@@ -180,11 +180,11 @@ module _ {K N R B : Type 0} {S : Terms K N} (W : ValidSets S R) (M : Numbers S B
               let once : S .same (S .key z) (S .key y) ≡ false =
               ap (keyed S (S .key y)) (sym there)
               ∙ none-at (keyed S (S .key y)) later k d (omega (arith, long, length-drop (j + 1) l)) (not-true (has (keyed S (S .key y)) later) (good-different S (W .goodKey) (W .goodCoefficient) y later fine-y)) in
-              let p : M .number (S .key y) ≡ read j = ap (λ (t : S .Term). M .number (S .key t)) (getD-take (W .sets .count s) (W .sets .places s) j (W .sets .blank) (omega arith)) ∙ sym (c .stored j b) in
-              let q : M .number (S .key z) ≡ x = ap (λ (t : S .Term). M .number (S .key t)) (getD-take (W .sets .count s) (W .sets .places s) i d h) ∙ sym e in
+              let p : M .fingerprint (S .key y) ≡ read j = ap (λ (t : S .Term). M .fingerprint (S .key t)) (getD-take (W .sets .count s) (W .sets .places s) j (W .sets .blank) (omega arith)) ∙ sym (c .stored j b) in
+              let q : M .fingerprint (S .key z) ≡ x = ap (λ (t : S .Term). M .fingerprint (S .key t)) (getD-take (W .sets .count s) (W .sets .places s) i d h) ∙ sym e in
               by-test (M .same (read j) x)
               (λ t. absurd (true≢false (sym (one (S .key z) (S .key y) (good-key S (W .goodKey) (W .goodCoefficient) z (drop (i + 1) l) fine-z) (good-key S (W .goodKey) (W .goodCoefficient) y later fine-y) ((λ v. M .same (p v) (q v)) ∙ t)) ∙ once)))
               (λ t. t)
 
-    pub numbered-done : {i : ℕ} → Numbered s read i → W .sets .count s ≤ i → true ≡ each fine (take (W .sets .count s) (W .sets .places s))
-    numbered-done {i} c h = sym (subst (λ (k : ℕ). each fine (take k (W .sets .places s)) ≡ true) (le-antisymm (c .within) h) (c .judged))
+    pub fingerprinted-done : {i : ℕ} → Fingerprinted s read i → W .sets .count s ≤ i → true ≡ each fine (take (W .sets .count s) (W .sets .places s))
+    fingerprinted-done {i} c h = sym (subst (λ (k : ℕ). each fine (take k (W .sets .places s)) ≡ true) (le-antisymm (c .within) h) (c .judged))

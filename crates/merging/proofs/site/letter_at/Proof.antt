@@ -1,10 +1,10 @@
--- `put::letter_at`: the loop has passed i places with other sites; the places ascend, so the first that has the site is the only one.
+-- `site::letter_at`: the loop has passed i places with other sites; the places ascend, so the first that has the site is the only one.
 -- Assumes nothing.
 use Prim.Native.Nat.{_-_}
 use borrow.Author.Needs.{needs}
 use Rattle.items.proofs.RecordLaws.{place-fits, Passed, passed-none, passed-more, passed-found, passed-done}
-use Rattle.merging.proofs.put.letter_at.Statement.{statement}
-use Rattle.merging.proofs.put.letter_at.Tie as tie
+use Rattle.merging.proofs.site.letter_at.Statement.{statement}
+use Rattle.merging.proofs.site.letter_at.Tie as tie
 
 abbrev Inv-loop : tie.InvT-loop
 Inv-loop site p count i₀ i = Passed (p .sites) count site i

@@ -1,10 +1,10 @@
--- `put::put`: the site is freed, and the product of the letter alone multiplied in, so that on each site one of the two factors is the identity.
+-- `site::put`: the site is freed, and the product of the letter alone multiplied in, so that on each site one of the two factors is the identity.
 -- Assumes nothing.
 use mathlib.Core.Path.{_∙_}
 use borrow.Author.Needs.{needs}
-use Rattle.merging.proofs.PutLaws.{rest-valid, one-valid, put-record, empty-room, push-empty}
-use Rattle.merging.proofs.put.put.Statement.{statement}
-use Rattle.merging.proofs.put.put.Tie as tie
+use Rattle.merging.proofs.SiteLaws.{rest-valid, one-valid, put-record, empty-room, push-empty}
+use Rattle.merging.proofs.site.put.Statement.{statement}
+use Rattle.merging.proofs.site.put.Tie as tie
 
 without-requires : tie.Need-without-requires
 without-requires c κs = search needs

@@ -1,8 +1,8 @@
 // One site of a product set, freed or read.
 ghost use mathlib.Core.Path.{_≡_};
 ghost use mathlib.Core.Bool.{true};
-ghost use Prim.Native.Nat.{_<_, suc, _≤_};
-ghost use Rattle.items.specs.Lists.{at, larger};
+ghost use Prim.Native.Nat.{_<_, suc, _≤_, max};
+ghost use Rattle.items.specs.Lists.{at};
 ghost use Rattle.items.specs.Record.{valid, letterAt, update, reach, recordOf, highestSite};
 ghost use Rattle.letters.specs.Answers.{highestLetter};
 ghost use Rattle.merging.specs.SiteAnswers.{saidGot, getAnswer, setAnswer};
@@ -52,7 +52,7 @@ fn without(p: Items, site: Site) -> Items
 // p with a letter on a site: the site is freed, and the letter's own product multiplied in.
 pub(crate) fn put(p: Items, site: Site, letter: u8) -> Items
     requires { ⌜ (valid p ≡ true) × (site ≤ highestSite) × (letter ≤ highestLetter) ⌝ }
-    ensures { λ r. ⌜ r ≡ recordOf (update (letterAt p) site letter) (larger (reach p) (suc site)) ⌝ }
+    ensures { λ r. ⌜ r ≡ recordOf (update (letterAt p) site letter) (max (reach p) (suc site)) ⌝ }
 {
     let rest = without(p, site);
     let one = pushed(empty(), site, letter);

@@ -3,7 +3,8 @@
 use mathlib.Core.Path.{_≡_, refl, sym, ap, ap₂, _∙_, subst}
 use mathlib.Core.Bool.{true, false}
 use mathlib.Core.List.{[], _∷_}
-use Prim.Native.Nat.{ℕ, suc, _+_, _%_, _≤_, _<_}
+use Prim.Native.Nat.{ℕ, suc, _+_, _%_, _≤_, _<_, max}
+use native.Mathlib.Nat.{le-max-left, le-max-right}
 use native.Mathlib.Decide.{ℕ-discrete, decLt}
 use native.Mathlib.Omega.{arith}
 use lib.Dec.{ltb}
@@ -18,13 +19,12 @@ use Rattle.refusal.specs.Refusals.{gives, refuses, done}
 use Rattle.letters.proofs.TestLaws.{first-at, first-none, first-before}
 use Rattle.letters.proofs.TableLaws.{Closed, closed}
 use Rattle.letters.specs.Answers.{highestLetter}
-use Rattle.items.specs.Lists.{at, larger}
+use Rattle.items.specs.Lists.{at}
 use Rattle.items.specs.Record.{highestSite, capacity, valid, letterAt, reach, reachOf, recordOf, update, emptyProduct}
 use Rattle.merging.specs.SiteAnswers.{getAnswer, setAnswer}
 use Rattle.merging.specs.ProductAnswers.{multiplyAnswer, firstOccupied, concatenateAnswer}
 use Rattle.merging.specs.Steps.{pushItem}
 use Rattle.items.specs.declared.Items.{Items}
-use Rattle.items.proofs.ListLaws.{larger-left, larger-right}
 use Rattle.items.proofs.RecordLaws.{valid-at, letter-here, letter-code, letter-occupied, letter-beyond, reach-most}
 use Rattle.items.proofs.Canonical.{fits-span, record-ext, record-valid, record-letters, record-beyond}
 use Rattle.items.proofs.Cursor.{Cursor, cursor-none, cursor-gap, cursor-end, cursor-pass}
@@ -68,8 +68,8 @@ small a l = omega arith
 times-free : {M : Letters} → Closed M → (p q : Items) → valid p ≡ true → valid q ≡ true → (s : ℕ) → reachOf p q ≤ s → letterOf (times M (letterAt p s) (letterAt q s)) ≡ 0
 times-free {M} k p q v w s l =
     ap₂ (λ (x y : ℕ). letterOf (times M x y))
-    (letter-beyond p v s (omega (arith, larger-left (reach p) (reach q))))
-    (letter-beyond q w s (omega (arith, larger-right (reach p) (reach q))))
+    (letter-beyond p v s (omega (arith, le-max-left (reach p) (reach q))))
+    (letter-beyond q w s (omega (arith, le-max-right (reach p) (reach q))))
     ∙ ap letterOf (k .times-zero 0 (omega arith))
 
 -- ---- a site freed
@@ -193,18 +193,18 @@ module _ (p : Items) (site letter : ℕ) (v : valid p ≡ true) (low : site ≤ 
 
   -- their product is the record with the letter on the site
   pub put-record : (kind : Kind) {rest one : Items} → rest ≡ recordOf freed (reach p) → one ≡ pushItem emptyProduct site letter
-      → recordOf (λ s. letterOf (times (lettersOf kind) (letterAt rest s) (letterAt one s))) (reachOf rest one) ≡ recordOf wanted (larger (reach p) (suc site))
+      → recordOf (λ s. letterOf (times (lettersOf kind) (letterAt rest s) (letterAt one s))) (reachOf rest one) ≡ recordOf wanted (max (reach p) (suc site))
   put-record kind {rest} {one} e h =
       let M = lettersOf kind in
       let k = closed kind in
       let a : (s : ℕ) → letterAt rest s ≡ freed s = λ s. ap (λ (q : Items). letterAt q s) e ∙ letters-all freed (reach p) freed-above s in
       let b : (s : ℕ) → letterAt one s ≡ alone s = λ s. ap (λ (q : Items). letterAt q s) (h ∙ alone-is) ∙ letters-all alone (suc site) alone-above s in
-      record-same (λ s. letterOf (times M (letterAt rest s) (letterAt one s))) wanted (reachOf rest one) (larger (reach p) (suc site))
+      record-same (λ s. letterOf (times M (letterAt rest s) (letterAt one s))) wanted (reachOf rest one) (max (reach p) (suc site))
       (λ s. ap₂ (λ (x y : ℕ). letterOf (times M x y)) (a s) (b s) ∙ set-times M k s)
       (λ s l. times-free k rest one (rest-valid e) (one-valid h) s l)
       (λ s l.
-      update-other (letterAt p) site letter s (λ q. omega (arith, larger-right (reach p) (suc site)))
-      ∙ letter-beyond p v s (omega (arith, larger-left (reach p) (suc site))))
+      update-other (letterAt p) site letter s (λ q. omega (arith, le-max-right (reach p) (suc site)))
+      ∙ letter-beyond p v s (omega (arith, le-max-left (reach p) (suc site))))
 
 -- ---- the entries on a site
 
@@ -228,7 +228,7 @@ get-letter p s l v m e n = rw (v, le-ltb highestSite s m, ne-eqb (letterAt p s) 
 
 -- the record set
 pub set-done : (p : Items) (s l : ℕ) {q : Items} → valid p ≡ true → s ≤ highestSite → l ≤ highestLetter
-    → q ≡ recordOf (update (letterAt p) s l) (larger (reach p) (suc s)) → (done, q) ≡ setAnswer p s l
+    → q ≡ recordOf (update (letterAt p) s l) (max (reach p) (suc s)) → (done, q) ≡ setAnswer p s l
 unfolding setAnswer
 set-done p s l v m k e = rw (v, le-ltb highestSite s m, le-ltb highestLetter l k) (λ i. (done, e i))
 
