@@ -4,7 +4,7 @@ use Prim.Native.Nat.{ℕ, _+_, _*_, _^_, _<_}
 use native.Mathlib.Nat.{mul-one, one-mul, mul-pos}
 use native.Mathlib.Omega.{arith}
 use mathlib.Core.Path.{_≡_, refl, sym, _∙_}
-use mathlib.Core.Bool.{Bool, true, false, _&&_, _||_, and-true}
+use mathlib.Core.Bool.{Bool, true, false, _&&_, _||_, and-true, true≢false}
 use lib.Dec.{leb, ltb, eqb}
 use lib.IntN.{ℤ, pos}
 use lib.Pow.{pow-pos}
@@ -33,10 +33,6 @@ eqb-sym a b = go (eqb a b) refl
     go true e = e ∙ sym (eq-eqb b a (sym (eqb-true a b e)))
     go false e = e ∙ sym (ne-eqb b a (λ q. eqb-false a b e (sym q)))
 
--- a test does not pass and fail
-pub clash : _≡_ {A = Bool} true false → ⊥
-clash e = let z : _≡_ {A = ℕ} 0 1 = cc in omega arith
-
 module _ (k : ℕ) where
   -- 0 < 2 ^ k, as the comparisons compute it
   power-pos : (d : ℤ) → 0 < 1 * 2 ^ k * down d
@@ -51,7 +47,7 @@ module _ (k : ℕ) where
       rw (← mul-one (m * up d), ← one-mul (2 ^ k)) (sym (le-split (m * up d * 1) (1 * 2 ^ k * down d)) ∙ e)
   above-power (fin true m d) e =
       let p = power-pos d in
-      absurd (clash (rw (lt-ltb 0 (m * up d * 1 + 1 * 2 ^ k * down d) (omega arith)) at e))
+      absurd (true≢false (rw (lt-ltb 0 (m * up d * 1 + 1 * 2 ^ k * down d) (omega arith)) at e))
 
   -- where x ≤ 2 ^ k, its size is at most 2 ^ k exactly if -2 ^ k ≤ x
   pub between-powers : (x : Float) → le x (fin false 1 (pos k)) ≡ true → le (fin true 1 (pos k)) x ≡ atMost k x

@@ -4,7 +4,7 @@ use Prim.Native.Nat.{ℕ, zero, suc, _*_, _/_, _%_, _^_, _≤_, _<_}
 use native.Mathlib.Nat.{mul-assoc, mul-comm, mul-zero, mul-right-comm, mul-mod-left, div-add-mod', eq-of-mul-eq-mul-right, le-trans, zero-mul}
 use native.Mathlib.Omega.{arith}
 use mathlib.Core.Path.{_≡_, refl, sym, ap, _∙_}
-use mathlib.Core.Bool.{Bool, true, false, not, _&&_, _||_, Bool·beq, cond}
+use mathlib.Core.Bool.{Bool, true, false, not, _&&_, _||_, Bool·beq, cond, true≢false}
 use mathlib.Core.Option.{Option, none, some, Option·map, Option·getD}
 use lib.Dec.{leb, eqb}
 use lib.IntN.{ℤ, pos, negsuc, negℤ, natAbs, negℤ-negℤ}
@@ -19,7 +19,6 @@ use Rattle.complex.specs.declared.whole.WholePart.{WholePart}
 use Rattle.complex.specs.declared.whole.WholePart.the-variants.{Parts, NotWhole}
 use Rattle.complex.specs.Complex.{plusZero}
 use Rattle.complex.specs.Wholes.{grainPower, mostPartsPower, signed, wholeFraction, partsIn, wholeOf, isSome, isWhole, partsOf, saidWhole}
-use Rattle.complex.proofs.FloatLaws.{clash}
 
 -- ---- one fraction in two ways
 
@@ -142,23 +141,23 @@ module _ (grain most : ℕ) where
       zeros s t h z = none-left s a b hb (left-zero a d hd z) ∙ sym (none-left t c d hd (left-zero c b hb (sym h ∙ z)))
 
       go : (q : Bool) → eqb (a * d) (c * b) ≡ q → (s t z : Bool) → eqb (a * d) 0 ≡ z → (q && (Bool·beq s t || z)) ≡ true → wholeFraction most s (2 ^ grain * a) b ≡ wholeFraction most t (2 ^ grain * c) d
-      go false f s t z g h = absurd (clash (sym h))
+      go false f s t z g h = absurd (true≢false (sym h))
       go true f false false z g h = same false (eqb-true (a * d) (c * b) f)
       go true f true true z g h = same true (eqb-true (a * d) (c * b) f)
       go true f false true true g h = zeros false true (eqb-true (a * d) (c * b) f) (eqb-true (a * d) 0 g)
       go true f true false true g h = zeros true false (eqb-true (a * d) (c * b) f) (eqb-true (a * d) 0 g)
-      go true f false true false g h = absurd (clash (sym h))
-      go true f true false false g h = absurd (clash (sym h))
+      go true f false true false g h = absurd (true≢false (sym h))
+      go true f true false false g h = absurd (true≢false (sym h))
 
   -- equal as numbers: the same parts, or both not whole
   pub equal-parts : (x y : Float) → eq x y ≡ true → partsIn grain most x ≡ partsIn grain most y
   unfolding partsIn eq
-  equal-parts nan y h = absurd (clash (sym h))
-  equal-parts (inf s) nan h = absurd (clash (sym h))
+  equal-parts nan y h = absurd (true≢false (sym h))
+  equal-parts (inf s) nan h = absurd (true≢false (sym h))
   equal-parts (inf s) (inf t) h = refl
-  equal-parts (inf s) (fin t n d) h = absurd (clash (sym h))
-  equal-parts (fin s m e) nan h = absurd (clash (sym h))
-  equal-parts (fin s m e) (inf t) h = absurd (clash (sym h))
+  equal-parts (inf s) (fin t n d) h = absurd (true≢false (sym h))
+  equal-parts (fin s m e) nan h = absurd (true≢false (sym h))
+  equal-parts (fin s m e) (inf t) h = absurd (true≢false (sym h))
   equal-parts (fin s m e) (fin t n d) h = level-parts s (m * up e) (down e) t (n * up d) (down d) (down-pos e) (down-pos d) h
 
   -- fractions with the same parts compare as equal
@@ -186,8 +185,8 @@ module _ (grain most : ℕ) where
       go q g true true l h = refl
       go true g false true l h = zero-left g l
       go true g true false l h = zero-left g l
-      go false g false true l h = absurd (clash (sym h))
-      go false g true false l h = absurd (clash (sym h))
+      go false g false true l h = absurd (true≢false (sym h))
+      go false g true false l h = absurd (true≢false (sym h))
 
   -- the same parts: equal as numbers
   pub parts-equal : (x y : Float) (z : ℤ) → partsIn grain most x ≡ some z → partsIn grain most y ≡ some z → eq x y ≡ true
@@ -219,7 +218,7 @@ unfolding isWhole partsOf
 whole-some x h = go (wholeOf x) h
   where
     go : (o : Option ℤ) → isSome o ≡ true → o ≡ some (Option·getD o (pos 0))
-    go none h = absurd (clash (sym h))
+    go none h = absurd (true≢false (sym h))
     go (some z) h = refl
 
 -- the number is not over the limit

@@ -2,13 +2,12 @@
 -- Assumes nothing.
 use Prim.Native.Nat.{ℕ}
 use mathlib.Core.Path.{_≡_, refl, sym, ap, ap₂, subst, _∙_}
-use mathlib.Core.Bool.{Bool, true, false, not, _&&_, cond}
+use mathlib.Core.Bool.{Bool, true, false, not, _&&_, cond, true≢false}
 use mathlib.Core.List.{List, map-map}
 use mathlib.Core.Logic.{_↔_}
 use lib.Dec.{leb}
 use Rattle.refusal.specs.Refusals.{Said, done}
 use Rattle.letters.specs.Gauss.{G}
-use Rattle.complex.proofs.FloatLaws.{clash}
 use Rattle.items.specs.Record.{reach, sameItems, sameKey}
 use Rattle.items.specs.declared.Items.{Items}
 use Rattle.terms.specs.Keyed.{each}
@@ -94,7 +93,10 @@ module _ (calls : List Call) where
 
   row-of-lines : (n r : ℕ) → exactRowEntries (systemAfter calls) n r ≡ lineRow n model r
   unfolding lineRow exactRowEntries
-  row-of-lines n r = ap (λ s. exactRowEntries s n r) grouped ∙ ap (rowIn halves false) (contributions n r (setsAfter calls .hamiltonian) (setsAfter calls .noise)) ∙ ap₂ (λ h w. rowIn halves false (wholeContributions n r (wholeLines h) (wholeLines w))) (held .hamiltonian) (held .noise)
+  row-of-lines n r =
+      ap (λ s. exactRowEntries s n r) grouped
+      ∙ ap (rowIn halves false) (contributions n r (setsAfter calls .hamiltonian) (setsAfter calls .noise))
+      ∙ ap₂ (λ h w. rowIn halves false (wholeContributions n r (wholeLines h) (wholeLines w))) (held .hamiltonian) (held .noise)
 
   module _ (n : ℕ) (p : Premises n model) where
     h-sound : SoundTerms sameItems (onSpins n) (wholeLines (model .hamiltonian))
@@ -146,7 +148,7 @@ system-valid s v = go (reals.validSet (s .system)) refl v
   where
     go : (b : Bool) → reals.validSet (s .system) ≡ b → cond b (pairs.validSet (s .noise .set)) false ≡ true → (reals.validSet (s .system) ≡ true) × (pairs.validSet (s .noise .set) ≡ true)
     go true e v = (e, v)
-    go false e v = absurd (clash (sym v))
+    go false e v = absurd (true≢false (sym v))
 
 -- the system that a source is, as its calls make it
 pub source-is : (x : Source) → systemOf x ≡ systemAfter (callsOf x)

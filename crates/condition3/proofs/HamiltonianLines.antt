@@ -2,13 +2,13 @@
 -- Assumes nothing.
 use Prim.Native.Nat.{_≤_}
 use mathlib.Core.Path.{_≡_, refl, sym, ap, _∙_}
-use mathlib.Core.Bool.{true, false, not, _&&_}
+use mathlib.Core.Bool.{true, false, not, _&&_, true≢false}
 use mathlib.Core.List.{List}
 use lib.ListN.{length}
 use lib.Ieee.{Float, ofBits, add, eq}
 use Rattle.letters.proofs.TestLaws.{and-true, and-left, and-false}
 use Rattle.complex.specs.Complex.{plusZero, sumOf, inRange, partInRange}
-use Rattle.complex.proofs.FloatLaws.{clash, in-range-real, is-zero-real}
+use Rattle.complex.proofs.FloatLaws.{in-range-real, is-zero-real}
 use Rattle.items.specs.Record.{valid, sameItems}
 use Rattle.items.specs.declared.Items.{Items}
 use Rattle.items.proofs.SameLaws.{same-equal}
@@ -67,7 +67,7 @@ module _ (s : PauliHamiltonian) (k : Items) (a : Float) (v : reals.validSet s �
   pub set-real-lines : realLines (setReal s k a .1) ≡ unlessRefused (lawfulTerm k a) (unlessFull (writeLine sameItems k (realPart a) (realLines s))) (realLines s)
   unfolding setReal
   set-real-lines =
-      past P (reals.validSet s) _ _ _ _ (λ e. absurd (clash (sym v ∙ e))) (λ u.
+      past P (reals.validSet s) _ _ _ _ (λ e. absurd (true≢false (sym v ∙ e))) (λ u.
       past P (valid k) _ _ _ _ (λ e. sym (arguments-refused (lawfulTerm k a) (realLines s) (bad-product e) _)) (λ w.
       set-lines realTerms realPart real-faithful realSets partInRange in-range-real s k a few ranges (lawfulTerm k a) bad-value (good-arguments w) _))
     where
@@ -77,7 +77,7 @@ module _ (s : PauliHamiltonian) (k : Items) (a : Float) (v : reals.validSet s �
   pub add-real-lines : realLines (addReal s k a .1) ≡ unlessRefused (lawfulTerm k a) (unlessFull (addLine sameItems k (realPart a) (realLines s))) (realLines s)
   unfolding addReal
   add-real-lines =
-      past P (reals.validSet s) _ _ _ _ (λ e. absurd (clash (sym v ∙ e))) (λ u.
+      past P (reals.validSet s) _ _ _ _ (λ e. absurd (true≢false (sym v ∙ e))) (λ u.
       past P (valid k) _ _ _ _ (λ e. sym (arguments-refused (lawfulTerm k a) (realLines s) (bad-product e) _)) (λ w.
       add-lines realTerms realPart real-faithful realSets partInRange in-range-real s k a few ranges (lawfulTerm k a) bad-value (good-arguments w)))
     where

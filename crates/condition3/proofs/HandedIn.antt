@@ -3,12 +3,11 @@
 use Prim.Native.Nat.{_≤_, _<_}
 use native.Mathlib.Omega.{arith}
 use mathlib.Core.Path.{_≡_, refl, sym, ap, subst, _∙_}
-use mathlib.Core.Bool.{Bool, true, false, not, _||_, _&&_, or-true}
+use mathlib.Core.Bool.{Bool, true, false, not, _||_, _&&_, or-true, true≢false}
 use mathlib.Core.List.{List, [], _∷_, _++_, map, append-nil, append-assoc}
 use lib.Ieee.{eq}
 use lib.ListN.{length, length-append}
 use borrow.Author.Tests.{lt-ltb, not-true}
-use Rattle.complex.proofs.FloatLaws.{clash}
 use Rattle.letters.proofs.TestLaws.{and-true, and-left, and-right}
 use Rattle.complex.specs.Complex.{plusZero, partInRange, isZero, inRange}
 use Rattle.items.specs.Record.{valid}
@@ -51,12 +50,12 @@ module _ {K N : Type 0} (S : Terms K N) where
   none-there p [] t r e = go (p t) refl e
     where
       go : (b : Bool) → p t ≡ b → (b || has p r) ≡ false → p t ≡ false
-      go true f e = absurd (clash e)
+      go true f e = absurd (true≢false e)
       go false f e = f
   none-there p (x ∷ l) t r e = go (p x) (none-there p l t r) e
     where
       go : (b : Bool) → (has p (l ++ t ∷ r) ≡ false → p t ≡ false) → (b || has p (l ++ t ∷ r)) ≡ false → p t ≡ false
-      go true h e = absurd (clash e)
+      go true h e = absurd (true≢false e)
       go false h e = h e
 
   -- a key that differs from all later ones differs from all earlier ones
@@ -70,7 +69,7 @@ module _ {K N : Type 0} (S : Terms K N) where
       later = none-there (keyed S (S .key x)) l t r (not-true (has (keyed S (S .key x)) (l ++ t ∷ r)) (each-head (different S) x (l ++ t ∷ r) e))
 
       go : (b : Bool) → S .same (S .key x) (S .key t) ≡ b → has (keyed S (S .key t)) l ≡ false → (b || has (keyed S (S .key t)) l) ≡ false
-      go true f h = absurd (clash (sym (A .swap (S .key x) (S .key t) f) ∙ later))
+      go true f h = absurd (true≢false (sym (A .swap (S .key x) (S .key t) f) ∙ later))
       go false f h = h
 
   pub write-new : (k : K) (a : N) (l : List (S .Term)) → S .isZero a ≡ false → has (keyed S k) l ≡ false → write S k a l ≡ l ++ S .term k a ∷ []

@@ -2,7 +2,7 @@
 -- Assumes nothing.
 use Prim.Native.Nat.{_≤_}
 use mathlib.Core.Path.{_≡_, refl, sym, ap, _∙_}
-use mathlib.Core.Bool.{Bool, true, false, not, _&&_, _||_, cond}
+use mathlib.Core.Bool.{Bool, true, false, not, _&&_, _||_, cond, true≢false}
 use mathlib.Core.List.{List, [], _∷_, _++_}
 use mathlib.Core.Option.{Option, none, some}
 use lib.Dec.{eqb}
@@ -12,7 +12,6 @@ use Rattle.items.specs.Record.{sameKey}
 use Rattle.letters.proofs.TestLaws.{and-true, and-left, and-false}
 use Rattle.complex.specs.Complex.{isZero, inRange}
 use Rattle.complex.specs.declared.Complex.{Complex}
-use Rattle.complex.proofs.FloatLaws.{clash}
 use Rattle.terms.specs.Keyed.{each, concatMap}
 use Rattle.terms.specs.Setting.{mostTerms, addAll}
 use Rattle.terms.specs.Chains.{fullTerms}
@@ -85,7 +84,7 @@ module _ (s : NoiseSet) (v : validSet s ≡ true) where
     pub set-pair-lines : noiseLines (setPair s k a .1) ≡ unlessRefused (lawfulPair k a) (unlessFull (writeLine sameKey k a (noiseLines s))) (noiseLines s)
     unfolding setPair
     set-pair-lines =
-        past P (validSet s) _ _ _ _ (λ e. absurd (clash (sym v ∙ e))) (λ u.
+        past P (validSet s) _ _ _ _ (λ e. absurd (true≢false (sym v ∙ e))) (λ u.
         past P (validKey k) _ _ _ _ (λ e. sym (arguments-refused (lawfulPair k a) (noiseLines s) (bad-product e) _)) (λ w.
         unless P (emptySide k) _ _ _ _ (λ e. sym (arguments-refused (lawfulPair k a) (noiseLines s) (bad-side e) _)) (λ n.
         set-lines pairTerms itself pairs-faithful noiseSets inRange (λ z. refl) s k a few ranges (lawfulPair k a) bad-value (good-arguments w n) _)))
@@ -96,7 +95,7 @@ module _ (s : NoiseSet) (v : validSet s ≡ true) where
     pub add-pair-lines : noiseLines (addPair s k a .1) ≡ unlessRefused (lawfulPair k a) (unlessFull (addLine sameKey k a (noiseLines s))) (noiseLines s)
     unfolding addPair
     add-pair-lines =
-        past P (validSet s) _ _ _ _ (λ e. absurd (clash (sym v ∙ e))) (λ u.
+        past P (validSet s) _ _ _ _ (λ e. absurd (true≢false (sym v ∙ e))) (λ u.
         past P (validKey k) _ _ _ _ (λ e. sym (arguments-refused (lawfulPair k a) (noiseLines s) (bad-product e) _)) (λ w.
         unless P (emptySide k) _ _ _ _ (λ e. sym (arguments-refused (lawfulPair k a) (noiseLines s) (bad-side e) _)) (λ n.
         add-lines pairTerms itself pairs-faithful noiseSets inRange (λ z. refl) s k a few ranges (lawfulPair k a) bad-value (good-arguments w n))))
@@ -177,7 +176,7 @@ module _ (s : NoiseSet) (l r : TermSet) (z : Complex) (v : validSet s ≡ true) 
   pub full-set-lines : noiseLines (addFullOperators s l r z .1) ≡ unlessRefused lawful lines (noiseLines s)
   unfolding addFullOperators
   full-set-lines =
-      past P (validSet s) _ _ _ _ (λ e. absurd (clash (sym v ∙ e))) (λ u.
+      past P (validSet s) _ _ _ _ (λ e. absurd (true≢false (sym v ∙ e))) (λ u.
       past P (operators.validSet false l) _ _ _ _ (λ e. sym (arguments-refused lawful (noiseLines s) (bad-left e) lines)) (λ a.
       past P (operators.validSet false r) _ _ _ _ (λ e. sym (arguments-refused lawful (noiseLines s) (bad-right e) lines)) (λ b.
       unless P empty _ _ _ _ (λ e. sym (arguments-refused lawful (noiseLines s) (no-terms e) lines)) (λ c.

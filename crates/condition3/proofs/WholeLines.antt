@@ -1,7 +1,7 @@
 -- Lines with whole parts as terms with whole coefficients: lines are the same exactly if these terms are, and the terms of a valid set are sound.
 -- Assumes nothing.
 use mathlib.Core.Path.{_≡_, refl, sym, ap, _∙_}
-use mathlib.Core.Bool.{Bool, true, false, _||_, cond}
+use mathlib.Core.Bool.{Bool, true, false, _||_, cond, true≢false}
 use mathlib.Core.List.{List, [], _∷_, map}
 use mathlib.Core.Logic.{_↔_}
 use lib.Ieee.{eq}
@@ -10,7 +10,6 @@ use Rattle.letters.proofs.GaussLaws.{eqG-true}
 use Rattle.letters.proofs.TestLaws.{and-true, and-left, and-right}
 use Rattle.complex.specs.Complex.{plusZero, isZero}
 use Rattle.complex.specs.declared.Complex.{Complex}
-use Rattle.complex.proofs.FloatLaws.{clash}
 use Rattle.terms.specs.Keyed.{has, held, each, headOr}
 use Rattle.terms.specs.Setting.{coefficientAt, keyed}
 use Rattle.terms.specs.Gaussian.{gaussian}
@@ -68,7 +67,7 @@ unfolding isZero sameParts
 gauss-nonzero z h e = go (eqG (gaussOf z) 𝟘) refl
   where
     go : (b : Bool) → eqG (gaussOf z) 𝟘 ≡ b → b ≡ false
-    go true t = absurd (clash (sym (same-gauss z (realPart plusZero) h zero-both (eqG-true (gaussOf z) 𝟘 t ∙ sym zero-gauss)) ∙ e))
+    go true t = absurd (true≢false (sym (same-gauss z (realPart plusZero) h zero-both (eqG-true (gaussOf z) 𝟘 t ∙ sym zero-gauss)) ∙ e))
     go false t = refl
 
 -- ---- lines
@@ -113,7 +112,7 @@ module _ {K : Type 0} (same : K → K → Bool) where
   line-none k (x ∷ xs) e = go (same (x .0) k) (line-none k xs) e
     where
       go : (b : Bool) → (hasLine same k xs ≡ false → onLine same k xs ≡ realPart plusZero) → (b || hasLine same k xs) ≡ false → cond b (x .1) (onLine same k xs) ≡ realPart plusZero
-      go true h e = absurd (clash e)
+      go true h e = absurd (true≢false e)
       go false h e = h e
 
   module _ (l m : List (Line K)) (hl : each (λ x xs. bothWhole (x .1)) l ≡ true) (hm : each (λ x xs. bothWhole (x .1)) m ≡ true) where

@@ -4,7 +4,7 @@ use Prim.Native.Nat.{ℕ, _*_, _^_, _≤_}
 use native.Mathlib.Nat.{zero-mul, mul-one}
 use native.Mathlib.Omega.{arith}
 use mathlib.Core.Path.{_≡_, refl, sym, ap, _∙_}
-use mathlib.Core.Bool.{Bool, true, false, not, _&&_, _||_, cond, Bool·beq}
+use mathlib.Core.Bool.{Bool, true, false, not, _&&_, _||_, cond, Bool·beq, true≢false}
 use mathlib.Core.List.{List, [], _∷_}
 use mathlib.Core.Option.{Option, none, some}
 use lib.Dec.{ltb, leb, eqb}
@@ -14,7 +14,6 @@ use borrow.Author.Tests.{eqb-true, le-leb}
 use Rattle.letters.proofs.TestLaws.{and-true, and-left, and-right, and-false}
 use Rattle.complex.specs.Complex.{plusZero, isZero, inRange, partInRange, atMost, limitPower}
 use Rattle.complex.specs.declared.Complex.{Complex}
-use Rattle.complex.proofs.FloatLaws.{clash}
 use Rattle.terms.specs.Keyed.{each}
 use Rattle.terms.specs.Kind.{Terms}
 use Rattle.terms.specs.Setting.{mostTerms, write, hasRoom}
@@ -60,8 +59,8 @@ none-within n = le-leb 0 n (omega arith)
 -- a part that is zero is in range
 zero-part : (x : Float) → eq x plusZero ≡ true → partInRange x ≡ true
 unfolding eq ofBits partInRange atMost
-zero-part nan e = absurd (clash (sym e))
-zero-part (inf s) e = absurd (clash (sym e))
+zero-part nan e = absurd (true≢false (sym e))
+zero-part (inf s) e = absurd (true≢false (sym e))
 zero-part (fin s m d) e =
     let same = eqb (m * up d * 1) (0 * down d) in
     let z : m * up d ≡ 0 = sym (mul-one (m * up d)) ∙ eqb-true (m * up d * 1) (0 * down d) (and-left same (Bool·beq s false || eqb (m * up d * 1) 0) e) ∙ zero-mul (down d) in
@@ -89,7 +88,7 @@ unfolding writeLine
 written-out same k z l e = go (isZero z) refl
   where
     go : (b : Bool) → isZero z ≡ b → linesInRange (cond b (strikeOut same k l) (replaceOrAppend same k z l)) ≡ false
-    go true t = absurd (clash (sym (zero-in-range z t) ∙ e))
+    go true t = absurd (true≢false (sym (zero-in-range z t) ∙ e))
     go false t = appended-out same k z l e
 
 -- ---- a call that writes b under k among the lines of the terms l: `lines` is what it makes of them

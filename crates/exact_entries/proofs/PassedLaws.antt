@@ -2,12 +2,11 @@
 -- Assumes nothing.
 use Prim.Native.Nat.{ℕ, _*_, _^_, _≤_, _<_}
 use mathlib.Core.Path.{_≡_, refl, sym, ap}
-use mathlib.Core.Bool.{Bool, true, false, not, cond}
+use mathlib.Core.Bool.{Bool, true, false, not, cond, true≢false}
 use mathlib.Core.List.{List, [], _∷_}
 use lib.Dec.{leb, ltb}
 use borrow.Author.Tests.{le-ltb, lt-leb, ltb-false, leb-false}
 use Rattle.refusal.specs.Refusals.{Said, gives, refuses}
-use Rattle.complex.proofs.FloatLaws.{clash}
 use Rattle.letters.specs.Gauss.{G}
 use Rattle.row_entries.specs.Answers.{mostSpins}
 use Rattle.items.specs.declared.Items.{Items}
@@ -54,7 +53,7 @@ past-outside (s ∷ ss) row x e = absurd (refused x e)
 
 both-valid : (a b : Bool) → cond a b false ≡ true → (a ≡ true) × (b ≡ true)
 both-valid true b e = (refl, e)
-both-valid false b e = absurd (clash (sym e))
+both-valid false b e = absurd (true≢false (sym e))
 
 -- ---- the exact row call
 

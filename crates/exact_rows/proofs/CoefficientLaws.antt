@@ -4,12 +4,12 @@ use Prim.Native.Nat.{ℕ, zero, suc, _%_, _≤_}
 use native.Mathlib.Omega.{arith}
 use mathlib.Core.Path.{_≡_, refl, sym, ap, ap₂, _∙_}
 use mathlib.Core.Bool.{true}
-use lib.IntN.{ℤ, pos, negℤ, natAbs, _+ℤ_, _*ℤ_, +ℤ-idl, zero-*ℤ, sucℤ-*ℤ, negℤ-negℤ}
+use lib.IntN.{ℤ, negℤ, natAbs, _+ℤ_, +ℤ-idl, zero-*ℤ, negℤ-negℤ}
 use mir.Syntax.{w64}
 use mir.Val.{toZ, ofZ}
 use mir.ValLaws.{toZ-ofZ}
 use Rattle.letters.specs.Gauss.{G, 𝟙, −𝟙, i⁺, _⊕_, ⊝, _⊗_, i^}
-use Rattle.letters.proofs.GaussLaws.{G-path, ⊗-assoc, ⊕-⊗, 𝟙-⊗, ⊝-𝟙, ⊝-⊗, i^-mod, i^-zero}
+use Rattle.letters.proofs.GaussLaws.{G-path, one-*, ⊗-assoc, ⊕-⊗, 𝟙-⊗, ⊝-𝟙, ⊝-⊗, i^-mod, i^-zero}
 use Rattle.master_equation.specs.Equation.{𝟚}
 use Rattle.master_equation.specs.Numbers.{halves}
 use Rattle.master_equation.specs.Contributions.{commutatorTerms, noiseTerms}
@@ -19,9 +19,6 @@ use Rattle.exact_sums.proofs.ExactLaws.{small-none, small-cons}
 use Rattle.exact_rows.specs.ExactRows.{largestCoefficient}
 
 -- ---- times a power of i
-
-one-* : (k : ℤ) → pos 1 *ℤ k ≡ k
-one-* k = sucℤ-*ℤ (pos 0) k ∙ ap (λ x. x +ℤ k) (zero-*ℤ k) ∙ +ℤ-idl k
 
 -- i (x + y i) = -y + x i
 turned : (x y : ℤ) → i⁺ ⊗ whole x y ≡ whole (negℤ y) x

@@ -18,7 +18,7 @@ use Rattle.items.specs.Lists.{at, support, padded}
 use Rattle.items.specs.Record.{capacity, highestSite, placeValid, valid, lookup, letterAt, reach, recordOf, sameItems, emptyProduct}
 use Rattle.items.specs.declared.Items.{Items}
 use Rattle.items.proofs.ListLaws.{below-cases, support-in, support-ext, map-support-ext, support-above, length-support, supported, support-place, length-padded, padded-in, padded-out, padded-take, getD-map}
-use Rattle.items.proofs.RecordLaws.{place-in, place-out, all-valid, valid-shape, valid-at, valid-past, ascending, lookup-absent, lookup-here, lookup-before, lookup-ext, letter-here, letter-beyond, site-below-reach}
+use Rattle.items.proofs.RecordLaws.{place-in, place-out, all-valid, valid-shape, valid-at, valid-past, ascending, lookup-absent, lookup-here, lookup-before, lookup-ext, letter-here, letter-beyond, site-below-reach, reach-none}
 use Rattle.items.proofs.SameLaws.{same-self, same-equal}
 
 -- ---- the record of a lettering: its span, and letterings that agree
@@ -190,15 +190,10 @@ pub empty-valid : valid emptyProduct ≡ true
 unfolding emptyProduct
 empty-valid = record-valid (λ s. 0) 0 (λ s l. omega arith) (omega arith) (omega (arith, length-support (λ s. 0) 0))
 
--- a record without letters reaches no site
-none-reached : (p : Items) → p .count ≡ 0 → reach p ≡ 0
-unfolding reach
-none-reached p e = rw (eq-eqb (p .count) 0 e)
-
--- where it is valid, it is the empty product
+-- a valid record without letters is the empty product
 none-held : (p : Items) → valid p ≡ true → p .count ≡ 0 → p ≡ emptyProduct
 unfolding emptyProduct recordOf support
-none-held p v e = sym (canonical p v) ∙ ap (recordOf (letterAt p)) (none-reached p e)
+none-held p v e = sym (canonical p v) ∙ ap (recordOf (letterAt p)) (reach-none p e)
 
 -- so a record without letters is that of the empty product where number 0 lets it pass
 pub empty-told : (p : Items) → p .count ≡ 0 → valid p ≡ sameItems p emptyProduct

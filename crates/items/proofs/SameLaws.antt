@@ -104,7 +104,9 @@ unfolding sameItems
 open-none p q a b e = record { first-long = a; second-long = b; decides = rw (eq-eqb (p .count) (q .count) e) }
 
 -- the places from i on, the sites and the letters of place i apart
-open-step : {p q : Items} {i : ℕ} → Open p q i → i < capacity → sameItems p q ≡ ((eqb (at (p .sites) i) (at (q .sites) i) && sameList (drop (i + 1) (p .sites)) (drop (i + 1) (q .sites))) && (eqb (at (p .letters) i) (at (q .letters) i) && sameList (drop (i + 1) (p .letters)) (drop (i + 1) (q .letters))))
+open-step : {p q : Items} {i : ℕ} → Open p q i → i < capacity → sameItems p q
+    ≡ ((eqb (at (p .sites) i) (at (q .sites) i) && sameList (drop (i + 1) (p .sites)) (drop (i + 1) (q .sites)))
+    && (eqb (at (p .letters) i) (at (q .letters) i) && sameList (drop (i + 1) (p .letters)) (drop (i + 1) (q .letters))))
 open-step {p} {q} {i} o l =
     let a : i < length (p .sites) = omega (arith, o .first-long .sites-long) in
     let b : i < length (q .sites) = omega (arith, o .second-long .sites-long) in

@@ -108,7 +108,8 @@ past : {k n : ℕ} → n ≤ k → (k ≡ n → ⊥) → n + 1 ≤ k
 past h ne = omega arith
 
 -- the key that is left of 4 to 15
-pub fourteen : {k : ℕ} → 4 ≤ k → k < 16 → (k ≡ 4 → ⊥) → (k ≡ 5 → ⊥) → (k ≡ 6 → ⊥) → (k ≡ 7 → ⊥) → (k ≡ 8 → ⊥) → (k ≡ 9 → ⊥) → (k ≡ 10 → ⊥) → (k ≡ 11 → ⊥) → (k ≡ 12 → ⊥) → (k ≡ 13 → ⊥) → (k ≡ 15 → ⊥) → k ≡ 14
+pub fourteen : {k : ℕ} → 4 ≤ k → k < 16 → (k ≡ 4 → ⊥) → (k ≡ 5 → ⊥) → (k ≡ 6 → ⊥) → (k ≡ 7 → ⊥) → (k ≡ 8 → ⊥) → (k ≡ 9 → ⊥)
+    → (k ≡ 10 → ⊥) → (k ≡ 11 → ⊥) → (k ≡ 12 → ⊥) → (k ≡ 13 → ⊥) → (k ≡ 15 → ⊥) → k ≡ 14
 fourteen {k} from to n₄ n₅ n₆ n₇ n₈ n₉ n₁₀ n₁₁ n₁₂ n₁₃ n₁₅ =
     last (past (past (past (past (past (past (past (past (past (past from n₄) n₅) n₆) n₇) n₈) n₉) n₁₀) n₁₁) n₁₂) n₁₃) to n₁₅
   where

@@ -1,7 +1,7 @@
 -- The factors of the single-site entries: an accepted answer says the matrices' product, conjugate or conversion, the unit of two f64 is its power of i,
 -- and the powers of decoherence products and of conjugates are even: "Factors are +1 or -1 except in conversions". Assumes nothing.
 use mathlib.Core.Path.{_≡_, refl, sym, ap, ap₂, _∙_, subst}
-use mathlib.Core.Bool.{Bool, true, false, _||_, cond, true≢false}
+use mathlib.Core.Bool.{Bool, true, false, _||_, cond}
 use mathlib.Core.List.{[]}
 use mathlib.Core.Logic.{_⊎_, ⊎-map}
 use Prim.Native.Nat.{ℕ, zero, suc, _+_, _*_, _%_, _≤_, _<_}
@@ -21,7 +21,7 @@ use Rattle.letters.specs.Single.{letterOf, powerOf, times, conjugated, c
 use Rattle.letters.specs.Answers.{other, decoded, asSign, inFloats, multiplyLetters, conjugateLetter, convertLetter, highestLetter}
 use Rattle.letters.specs.declared.Kind.{Kind}
 use Rattle.letters.specs.declared.Kind.the-variants.{Pauli, Decoherence}
-use Rattle.letters.proofs.TestLaws.{every-at}
+use Rattle.letters.proofs.TestLaws.{every-at, neither}
 use Rattle.letters.proofs.GaussLaws.{i^-mod}
 use Rattle.letters.proofs.TableLaws.{closed, converts, times-right, conjugated-right, converted-right}
 use Rattle.letters.proofs.Codes.{codes, conjugateCodes, times-code, conjugated-code}
@@ -53,11 +53,6 @@ given true e c k h = let z : _≡_ {A = ℕ} 0 1 = cc in absurd (omega arith)
 given false e c k h =
     let g : _≡_ {A = ℕ × ℕ} (letterOf e, powerOf e) (c, k) = cc in
     record { passed = refl; letter = ap (λ x. x .0) g; power = ap (λ x. x .1) g }
-
--- neither letter is refused
-neither : (a b : Bool) → (a || b) ≡ false → (a ≡ false) × (b ≡ false)
-neither true b e = absurd (true≢false e)
-neither false b e = (refl, e)
 
 -- the product of two letters' matrices
 pub multiply-letter-right : (kind : Kind) (l r c k : ℕ) → multiplyLetters (lettersOf kind) l r ≡ gives (c, k) → (x y : ℕ) → x < 2 → y < 2

@@ -122,15 +122,16 @@ unfolding _⊗_ _⊕_
 pub ⊕-⊗ : (x y z : G) → (x ⊕ y) ⊗ z ≡ x ⊗ z ⊕ y ⊗ z
 ⊕-⊗ x y z = ⊗-comm (x ⊕ y) z ∙ ⊗-⊕ z x y ∙ ap₂ _⊕_ (⊗-comm z x) (⊗-comm z y)
 
+-- once a whole number
+pub one-* : (k : ℤ) → pos 1 *ℤ k ≡ k
+one-* k = sucℤ-*ℤ (pos 0) k ∙ ap (λ x. x +ℤ k) (zero-*ℤ k) ∙ +ℤ-idl k
+
 pub 𝟙-⊗ : (x : G) → 𝟙 ⊗ x ≡ x
 unfolding _⊗_ 𝟙
 𝟙-⊗ x =
     G-path
     (ap₂ (λ u v. u +ℤ negℤ v) (one-* (x .re)) (zero-*ℤ (x .im)) ∙ +ℤ-idr (x .re))
     (ap₂ _+ℤ_ (one-* (x .im)) (zero-*ℤ (x .re)) ∙ +ℤ-idr (x .im))
-  where
-    one-* : (k : ℤ) → pos 1 *ℤ k ≡ k
-    one-* k = sucℤ-*ℤ (pos 0) k ∙ ap (λ x. x +ℤ k) (zero-*ℤ k) ∙ +ℤ-idl k
 
 pub ⊗-𝟙 : (x : G) → x ⊗ 𝟙 ≡ x
 ⊗-𝟙 x = ⊗-comm x 𝟙 ∙ 𝟙-⊗ x

@@ -36,7 +36,10 @@ unfolding every
 bits-found = refl
 
 bit-and-xor : (x y z : ℕ) → x < 2 → y < 2 → z < 2 → min x (bitXor y z) ≡ differ (bitAnd x y) (bitAnd x z)
-bit-and-xor x y z hx hy hz = eqb-true _ _ (every-at 2 (λ z. eqb (min x (bitXor y z)) (differ (bitAnd x y) (bitAnd x z))) (every-at 2 (λ y. every 2 (λ z. eqb (min x (bitXor y z)) (differ (bitAnd x y) (bitAnd x z)))) (every-at 2 (λ x. every 2 (λ y. every 2 (λ z. eqb (min x (bitXor y z)) (differ (bitAnd x y) (bitAnd x z))))) bits-found x hx) y hy) z hz)
+bit-and-xor x y z hx hy hz =
+    eqb-true _ _ (every-at 2 (λ z. eqb (min x (bitXor y z)) (differ (bitAnd x y) (bitAnd x z)))
+    (every-at 2 (λ y. every 2 (λ z. eqb (min x (bitXor y z)) (differ (bitAnd x y) (bitAnd x z))))
+    (every-at 2 (λ x. every 2 (λ y. every 2 (λ z. eqb (min x (bitXor y z)) (differ (bitAnd x y) (bitAnd x z))))) bits-found x hx) y hy) z hz)
 
 -- the bits of a in which b and c differ are those in which the bits of a in b and in c do
 pub and-xor : (a b c : ℕ) → bitAnd a (bitXor b c) ≡ bitXor (bitAnd a b) (bitAnd a c)

@@ -5,14 +5,13 @@ use mathlib.Core.Path.{_≡_, refl, ap₂, _∙_}
 use mathlib.Core.Bool.{true, false}
 use mathlib.Core.List.{List, [], _∷_}
 use Prim.Native.Nat.{ℕ, _^_, _<_}
-use native.Mathlib.Omega.{arith}
 use Rattle.letters.specs.Gauss.{G, _⊕_, _⊗_}
 use Rattle.letters.specs.Matrices.{lettersOf, matrix}
 use Rattle.letters.specs.declared.Kind.{Kind}
-use Rattle.letters.proofs.GaussLaws.{ring, ⊗-assoc}
-use Rattle.items.specs.Record.{valid, letterAt}
+use Rattle.letters.proofs.GaussLaws.{⊗-assoc, ⊗-left-comm}
+use Rattle.items.specs.Record.{letterAt}
 use Rattle.items.specs.declared.Items.{Items}
-use Rattle.items.proofs.RecordLaws.{letter-code}
+use Rattle.items.proofs.MaskLaws.{letter-lt}
 use Rattle.terms.specs.Keyed.{concatMap}
 use Rattle.terms.specs.Gaussian.{weighted, summed}
 use Rattle.terms.proofs.KeyedLaws.{All, all-head, all-tail}
@@ -39,18 +38,11 @@ sum-terms {K} c g φ Good e (t ∷ l) h =
     sum-append c (g t) (concatMap g l)
     ∙ ap₂ _⊕_ (e t (all-head (λ (t : K × G). Good (t .0)) t l h)) (sum-terms c g φ Good e l (all-tail (λ (t : K × G). Good (t .0)) t l h))
 
-swap : (t c u : G) → t ⊗ (c ⊗ u) ≡ c ⊗ (t ⊗ u)
-swap t c u = simp ring
-
 -- twice each value is twice the sum
 twice : {K : Type 0} (φ : K → G) (l : List (K × G)) → weighted (λ k. 𝟚 ⊗ φ k) l ≡ 𝟚 ⊗ weighted φ l
 twice {K} φ l =
-    summed-same (λ (t : K × G). t .1 ⊗ (𝟚 ⊗ φ (t .0))) (λ t. 𝟚 ⊗ (t .1 ⊗ φ (t .0))) l (λ t. swap (t .1) 𝟚 (φ (t .0)))
+    summed-same (λ (t : K × G). t .1 ⊗ (𝟚 ⊗ φ (t .0))) (λ t. 𝟚 ⊗ (t .1 ⊗ φ (t .0))) l (λ t. ⊗-left-comm (t .1) 𝟚 (φ (t .0)))
     ∙ summed-scale 𝟚 (λ (t : K × G). t .1 ⊗ φ (t .0)) l
-
--- a letter is below 4
-code : (p : Items) → valid p ≡ true → (s : ℕ) → letterAt p s < 4
-code p v s = omega (arith, letter-code p v s)
 
 -- ---- operators
 
@@ -65,7 +57,7 @@ unfolding matrixOf
 operator-row-theorem kind n r c hc h f =
     rowIn-value true c (operatorHalves kind n r h)
     ∙ sum-terms c (λ (t : Items × G). operatorTerms halves n (lettersOf kind) r (letterAt (t .0)) (t .1)) (λ p. 𝟚 ⊗ matrix (lettersOf kind) n (letterAt p) r c) (Fits n)
-    (λ t g. operator-sum kind n (letterAt (t .0)) (λ s m. code (t .0) (g .0) s) r c hc (t .1) ∙ ⊗-assoc 𝟚 (t .1) _ ∙ swap 𝟚 (t .1) (matrix (lettersOf kind) n (letterAt (t .0)) r c)) h f
+    (λ t g. operator-sum kind n (letterAt (t .0)) (λ s m. letter-lt (t .0) (g .0) s) r c hc (t .1) ∙ ⊗-assoc 𝟚 (t .1) _ ∙ ⊗-left-comm 𝟚 (t .1) (matrix (lettersOf kind) n (letterAt (t .0)) r c)) h f
     ∙ twice (λ p. matrix (lettersOf kind) n (letterAt p) r c) h
 
 -- ---- open systems
@@ -86,14 +78,14 @@ module _ (n k l a b : ℕ) (hk : k < 2 ^ n) (hl : l < 2 ^ n) (ha : a < 2 ^ n) (h
       → sumAt (pairColumn n a b) (commutatorHalves n k l h) ≡ weighted (λ p. commutator n (letterAt p) k l a b) h
   commutator-theorem h f =
       sum-terms (pairColumn n a b) (λ (t : Items × G). commutatorTerms halves n k l (letterAt (t .0)) (t .1)) (λ p. commutator n (letterAt p) k l a b) (Fits n)
-      (λ t g. commutator-sum n (letterAt (t .0)) (λ s m. code (t .0) (g .0) s) k l a b hk hl ha hb (t .1)) h f
+      (λ t g. commutator-sum n (letterAt (t .0)) (λ s m. letter-lt (t .0) (g .0) s) k l a b hk hl ha hb (t .1)) h f
 
   pub noise-theorem : (w : List (Key × G)) → All (λ t. FitsPair n (t .0)) w
       → sumAt (pairColumn n a b) (noiseHalves n k l w) ≡ weighted (λ p. dissipator n (letterAt (p .0)) (letterAt (p .1)) k l a b) w
   noise-theorem w f =
       sum-terms (pairColumn n a b) (λ (t : Key × G). noiseTerms halves n k l (letterAt (t .0 .0)) (letterAt (t .0 .1)) (t .1))
       (λ p. dissipator n (letterAt (p .0)) (letterAt (p .1)) k l a b) (FitsPair n)
-      (λ t g. noise-sum n (letterAt (t .0 .0)) (letterAt (t .0 .1)) (λ s m. code (t .0 .0) (g .0 .0) s) (λ s m. code (t .0 .1) (g .1 .0) s) k l a b hk hl ha hb (t .1)) w f
+      (λ t g. noise-sum n (letterAt (t .0 .0)) (letterAt (t .0 .1)) (λ s m. letter-lt (t .0 .0) (g .0 .0) s) (λ s m. letter-lt (t .0 .1) (g .1 .0) s) k l a b hk hl ha hb (t .1)) w f
 
   -- the commutator row, without zero sums, and the noise row: at each column the entry of the superoperator
   pub commutator-row-theorem : (h : List (Items × G)) → All (λ t. Fits n (t .0)) h

@@ -22,7 +22,9 @@ use Rattle.ordering.proofs.SamePlaces.{valid-same}
 -- ---- keys of records of one count
 
 -- sites before letters
-pub pauli-keys : (p q : Items) → p .count ≡ q .count → p .count ≤ length (p .sites) → p .count ≤ length (q .sites) → compareLists (keyOf Pauli p) (keyOf Pauli q) ≡ andThen (compareLists (take (p .count) (p .sites)) (take (p .count) (q .sites))) (compareLists (take (p .count) (p .letters)) (take (p .count) (q .letters)))
+pub pauli-keys : (p q : Items) → p .count ≡ q .count → p .count ≤ length (p .sites) → p .count ≤ length (q .sites)
+    → compareLists (keyOf Pauli p) (keyOf Pauli q)
+    ≡ andThen (compareLists (take (p .count) (p .sites)) (take (p .count) (q .sites))) (compareLists (take (p .count) (p .letters)) (take (p .count) (q .letters)))
 unfolding keyOf
 pauli-keys p q e a b =
     let n = p .count in
@@ -39,7 +41,9 @@ items-by-keys : (kind : Kind) (p q : Items) → p .count ≡ q .count → compar
 unfolding compareItems andThen
 items-by-keys kind p q e = rw (numbers-equal (p .count) (q .count) e)
 
-pub pauli-items : (kind : Kind) (p q : Items) (x : Order) → kind ≡ Pauli → p .count ≡ q .count → p .count ≤ length (p .sites) → p .count ≤ length (q .sites) → x ≡ andThen (compareLists (take (p .count) (p .sites)) (take (p .count) (q .sites))) (compareLists (take (p .count) (p .letters)) (take (p .count) (q .letters))) → x ≡ compareItems kind p q
+pub pauli-items : (kind : Kind) (p q : Items) (x : Order) → kind ≡ Pauli → p .count ≡ q .count → p .count ≤ length (p .sites) → p .count ≤ length (q .sites)
+    → x ≡ andThen (compareLists (take (p .count) (p .sites)) (take (p .count) (q .sites))) (compareLists (take (p .count) (p .letters)) (take (p .count) (q .letters)))
+    → x ≡ compareItems kind p q
 pauli-items kind p q x k e a b h = h ∙ sym (items-by-keys kind p q e ∙ ap (λ (y : Kind). compareLists (keyOf y p) (keyOf y q)) k ∙ pauli-keys p q e a b)
 
 pub decoherence-items : (kind : Kind) (p q : Items) (x : Order) → kind ≡ Decoherence → p .count ≡ q .count → x ≡ compareLists (pairs (p .sites) (p .letters) (p .count)) (pairs (q .sites) (q .letters) (p .count)) → x ≡ compareItems kind p q

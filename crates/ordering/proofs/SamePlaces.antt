@@ -15,7 +15,8 @@ use Rattle.items.specs.declared.Items.{Items}
 use Rattle.items.proofs.RecordLaws.{valid-shape, valid-past}
 
 -- lists of one length that agree below n, with zeros from n on
-agree : (x y : List ℕ) (n : ℕ) → length x ≡ capacity → length y ≡ capacity → ((i : ℕ) → i < n → at x i ≡ at y i) → ((i : ℕ) → n ≤ i → i < capacity → at x i ≡ 0) → ((i : ℕ) → n ≤ i → i < capacity → at y i ≡ 0) → x ≡ y
+agree : (x y : List ℕ) (n : ℕ) → length x ≡ capacity → length y ≡ capacity → ((i : ℕ) → i < n → at x i ≡ at y i)
+    → ((i : ℕ) → n ≤ i → i < capacity → at x i ≡ 0) → ((i : ℕ) → n ≤ i → i < capacity → at y i ≡ 0) → x ≡ y
 agree x y n lx ly h zx zy =
     ext-getD 0 x y (lx ∙ sym ly) (λ i l. by-cases (decLt i n) (λ a. h i a) (λ a. zx i (omega arith) (omega arith) ∙ sym (zy i (omega arith) (omega arith))))
 

@@ -30,6 +30,7 @@ use Rattle.merging.specs.ProductAnswers.{multiplyAnswer, firstOccupied, concate
 use Rattle.phases.specs.Answers.{conjugateAnswer, convertAnswer}
 use Rattle.row_entries.specs.Answers.{rowAnswer, mostSpins}
 use Rattle.items.specs.declared.Items.{Items}
+use Rattle.items.proofs.MaskLaws.{letter-lt}
 use Rattle.items.proofs.RecordLaws.{letter-code, letter-beyond, letter-occupied, reach-most}
 use Rattle.items.proofs.Canonical.{fits-span, record-valid, record-letters, record-beyond}
 use Rattle.items.proofs.Cursor.{total-above}
@@ -57,10 +58,6 @@ module _ (M : Letters) (h k : ℕ → ℕ) (span : ℕ) (hz : (s : ℕ) → span
   in-record n l r c =
       ap₂ _⊗_ (ap (λ (x : ℕ). i^ (x % 4)) (total-above k span n l (λ s a b. kz s a)))
       (matrix-same M n h (letterAt (recordOf h span)) (λ s a. sym (record-has s)) r c)
-
--- a letter is below 4
-code : (p : Items) → valid p ≡ true → (s : ℕ) → letterAt p s < 4
-code p v s = omega (arith, letter-code p v s)
 
 -- the record of letters up to 3, on sites up to the highest, is valid
 codes-valid : (h : ℕ → ℕ) (span : ℕ) → ((s : ℕ) → h s ≤ highestLetter) → span ≤ suc highestSite → valid (recordOf h span) ≡ true
@@ -157,7 +154,7 @@ module _ (kind : Kind) (p q : Items) where
   multiply-theorem k x e n l r c =
       let a = multiplied k x e in
       let z = both-free (a .left) (a .right) in
-      multiply-matrix M (closed kind) n (letterAt p) (letterAt q) (λ s h. code p (a .left) s) (λ s h. code q (a .right) s) r c
+      multiply-matrix M (closed kind) n (letterAt p) (letterAt q) (λ s h. letter-lt p (a .left) s) (λ s h. letter-lt q (a .right) s) r c
       ∙ in-record M productLetter productPower (reachOf p q) (λ s h. ap letterOf (z s h)) (λ s h. ap powerOf (z s h)) n l r c
       ∙ ap₂ (λ (k : ℕ) (x : Items). i^ k ⊗ matrix M n (letterAt x) r c) (a .power) (a .items)
 
@@ -189,7 +186,7 @@ module _ (kind : Kind) (p : Items) where
       let free : (s : ℕ) → reach p ≤ s → (conjugateLetter s ≡ 0) × (conjugatePower s ≡ 0) =
       λ s h. let z = letter-beyond p (not-false _ (a .0)) s h in
       let w = conjugated-plain kind (letterAt p s) (omega arith) (omega arith) in (sym (w .0) ∙ z, sym (w .1)) in
-      conjugate-matrix N (closed kind) n (letterAt p) (λ s h. code p (not-false _ (a .0)) s) r c
+      conjugate-matrix N (closed kind) n (letterAt p) (λ s h. letter-lt p (not-false _ (a .0)) s) r c
       ∙ in-record N conjugateLetter conjugatePower (reach p) (λ s h. free s h .0) (λ s h. free s h .1) n l r c
       ∙ ap (λ (z : Said Unit × (ℕ × Items)). i^ (z .1 .0) ⊗ matrix N n (letterAt (z .1 .1)) r c) (a .1)
 
@@ -225,7 +222,7 @@ module _ (kind : Kind) (p : Items) where
       let free : (s : ℕ) → reach p ≤ s → (convertLetter s ≡ 0) × (convertPower s ≡ 0) =
       λ s h. let z = letter-beyond p v s h in
       let w = converted-plain kind (letterAt p s) (omega arith) (omega arith) in (sym (w .0) ∙ z, sym (w .1)) in
-      convert-matrix From Into (converts kind (other kind)) n (letterAt p) (λ s h. code p v s) r c
+      convert-matrix From Into (converts kind (other kind)) n (letterAt p) (λ s h. letter-lt p v s) r c
       ∙ in-record Into convertLetter convertPower (reach p) (λ s h. free s h .0) (λ s h. free s h .1) n l r c
       ∙ ap (λ (z : Said Unit × (ℕ × Items)). i^ (z .1 .0) ⊗ matrix Into n (letterAt (z .1 .1)) r c) (a .1)
 
@@ -335,7 +332,7 @@ module _ (kind : Kind) (p : Items) (n r : ℕ) where
       → matrix (lettersOf kind) n (letterAt p) r y ≡ cond (eqb y c) (i^ k) 𝟘
   row-theorem c k e y l =
       let a = rowed c k e in
-      row-matrix (lettersOf kind) (closed kind) n (letterAt p) (λ s h. code p (a .held) s) r y l
+      row-matrix (lettersOf kind) (closed kind) n (letterAt p) (λ s h. letter-lt p (a .held) s) r y l
       ∙ ap₂ (λ (c k : ℕ). cond (eqb y c) (i^ k) 𝟘) (a .column) (a .power)
 
   -- the column is in the matrix

@@ -37,7 +37,8 @@ unfolding rowIn keptBy rowOf placeAll placed nonzero noiseTerms columnOf rowPowe
 z-z-exact = refl
 
 -- 3 Z0 with (X0, X0), 2: row 1 has -4 - 12 i in column 1 and 4 in column 2
-worked-row : rowIn halves false (commutatorTerms halves 1 0 1 (λ s. 3) (record { re = pos 3; im = pos 0 }) ++ noiseTerms halves 1 0 1 (λ s. 1) (λ s. 1) (record { re = pos 2; im = pos 0 })) ≡ (1, record { re = negsuc 3; im = negsuc 11 }) ∷ (2, record { re = pos 4; im = pos 0 }) ∷ []
+worked-row : rowIn halves false (commutatorTerms halves 1 0 1 (λ s. 3) (record { re = pos 3; im = pos 0 }) ++ noiseTerms halves 1 0 1 (λ s. 1) (λ s. 1) (record { re = pos 2; im = pos 0 }))
+    ≡ (1, record { re = negsuc 3; im = negsuc 11 }) ∷ (2, record { re = pos 4; im = pos 0 }) ∷ []
 unfolding rowIn keptBy rowOf placeAll placed nonzero commutatorTerms noiseTerms columnOf rowPower total bit cell firstFrom eqG eqℤ pauli decoherence two-by-two i^ _⊗_ _⊕_ 𝟘 𝟙 −𝟙 𝟚 i⁺ i⁻
 worked-row = refl
 

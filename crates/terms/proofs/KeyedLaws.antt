@@ -12,7 +12,7 @@ use lib.Dec.{ltb}
 use borrow.Author.Tests.{lt-ltb, ltb-true, ltb-false}
 use lib.ListN.{length, getD, take, drop, set, length-set, drop-of-length-le}
 use lib.Seq.{drop-cons, take-suc}
-use Rattle.letters.proofs.TestLaws.{and-left, and-right, bool-ext}
+use Rattle.letters.proofs.TestLaws.{and-left, and-right, bool-ext, neither}
 use Rattle.terms.specs.Keyed.{firstAt, held, has, written, struck, each, headOr, concatMap}
 
 -- What the definitions give where the key is at the place i of l. `d` is what is read past the end.
@@ -197,10 +197,6 @@ all-each p (x ∷ l) e = all-cons (λ x. p x ≡ true) x l (each-head (λ x xs. 
 pub by-test : {P : Type 0} (b : Bool) → (b ≡ true → P) → (b ≡ false → P) → P
 by-test true p q = p refl
 by-test false p q = q refl
-
-neither : (a b : Bool) → (a || b) ≡ false → (a ≡ false) × (b ≡ false)
-neither true b e = absurd (true≢false e)
-neither false b e = (refl, e)
 
 -- a key that passes less
 pub has-fewer : {A : Type 0} (p q : A → Bool) (l : List A) → ((x : A) → q x ≡ true → p x ≡ true) → has p l ≡ false → has q l ≡ false
