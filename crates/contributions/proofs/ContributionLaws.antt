@@ -12,13 +12,13 @@ use Rattle.items.specs.declared.Items.{Items}
 use Rattle.master_equation.specs.Numbers.{Numbers}
 use Rattle.master_equation.specs.Contributions.{operatorTerms, commutatorTerms, noiseTerms}
 use Rattle.row_entries.specs.Entries.{operatorEntry, commutatorEntries, noiseEntries}
-use Rattle.contributions.specs.Values.{whole, half, jumpAndHalves}
+use Rattle.contributions.specs.Values.{wholeEntry, halfEntry, jumpAndHalves}
 use Rattle.row_entries.proofs.EntryLaws.{entry-small, OfKind, pauli-kind, decoherence-kind, Within, column-inside, power-inside}
 
 module _ {C N : Type 0} (A : Numbers C N) (c : C) where
   module _ (n : ℕ) where
     -- an operator's row
-    pub operator-terms : {M : Letters} → OfKind M → (p : Items) → Within n p → (r : ℕ) → r < 2 ^ n → operatorTerms A n M r (letterAt p) c ≡ whole A c (operatorEntry M (masksOf p) n r) ∷ []
+    pub operator-terms : {M : Letters} → OfKind M → (p : Items) → Within n p → (r : ℕ) → r < 2 ^ n → operatorTerms A n M r (letterAt p) c ≡ wholeEntry A c (operatorEntry M (masksOf p) n r) ∷ []
     unfolding operatorTerms
     operator-terms o p w r l = rw (column-inside o n p w r l, power-inside o n p w r l)
 
@@ -30,7 +30,7 @@ module _ {C N : Type 0} (A : Numbers C N) (c : C) where
       second-below = mod-lt r (pow-pos n)
 
       -- a commutator's row: both entries whole
-      pub commutator-terms : (p : Items) → Within n p → commutatorTerms A n (r / 2 ^ n) (r % 2 ^ n) (letterAt p) c ≡ map (whole A c) (commutatorEntries (masksOf p) n r)
+      pub commutator-terms : (p : Items) → Within n p → commutatorTerms A n (r / 2 ^ n) (r % 2 ^ n) (letterAt p) c ≡ map (wholeEntry A c) (commutatorEntries (masksOf p) n r)
       unfolding commutatorTerms commutatorEntries
       commutator-terms p w =
           let k = r / 2 ^ n in
@@ -68,9 +68,9 @@ module _ {C N : Type 0} (A : Numbers C N) (c : C) where
 
       -- the same from the entries that the code finds
       pub commutator-contributes : (p : Items) → Within n p → {left right : ℕ × ℕ} → left ∷ right ∷ [] ≡ commutatorEntries (masksOf p) n r
-          → commutatorTerms A n (r / 2 ^ n) (r % 2 ^ n) (letterAt p) c ≡ whole A c left ∷ whole A c right ∷ []
-      commutator-contributes p w e = commutator-terms p w ∙ ap (map (whole A c)) (sym e)
+          → commutatorTerms A n (r / 2 ^ n) (r % 2 ^ n) (letterAt p) c ≡ wholeEntry A c left ∷ wholeEntry A c right ∷ []
+      commutator-contributes p w e = commutator-terms p w ∙ ap (map (wholeEntry A c)) (sym e)
 
       pub noise-contributes : (p q : Items) → Within n p → Within n q → {jump left right : ℕ × ℕ} → jump ∷ left ∷ right ∷ [] ≡ noiseEntries (masksOf p) (masksOf q) n r
-          → noiseTerms A n (r / 2 ^ n) (r % 2 ^ n) (letterAt p) (letterAt q) c ≡ whole A c jump ∷ half A c left ∷ half A c right ∷ []
+          → noiseTerms A n (r / 2 ^ n) (r % 2 ^ n) (letterAt p) (letterAt q) c ≡ wholeEntry A c jump ∷ halfEntry A c left ∷ halfEntry A c right ∷ []
       noise-contributes p q w v e = noise-terms p q w v ∙ ap (jumpAndHalves A c) (sym e)

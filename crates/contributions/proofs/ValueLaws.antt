@@ -20,7 +20,7 @@ use Rattle.rows.specs.Floats.{floats}
 use Rattle.rows.specs.Buffers.{mostEntries, Long, entries}
 use Rattle.rows.proofs.ArrayLaws.{long-stored, entries-stored}
 use Rattle.row_entries.specs.Entries.{commutatorEntries, noiseEntries}
-use Rattle.contributions.specs.Values.{whole, jumpAndHalves, commutatorValues, noiseValues, Arrays, storedFrom, written}
+use Rattle.contributions.specs.Values.{wholeEntry, jumpAndHalves, commutatorValues, noiseValues, Arrays, storedFrom, written}
 
 -- ---- one after the other
 
@@ -111,7 +111,7 @@ module _ (p : ℕ) (c : Complex) (n r at : ℕ) (s : Arrays) where
   commutator-put room {left} {right} e {a = a} {b = b} eu ea ev eb first second =
       written-then at (left .0, a) ((right .0, b) ∷ []) s (omega arith) first second
       ∙ ap (λ (l : List (ℕ × Complex)). written at l s)
-      (ap₂ (λ (a b : Complex). (left .0, a) ∷ (right .0, b) ∷ []) (ea ∙ ap (productOf c) eu) (eb ∙ ap (productOf c) ev) ∙ ap (map (whole floats c)) e)
+      (ap₂ (λ (a b : Complex). (left .0, a) ∷ (right .0, b) ∷ []) (ea ∙ ap (productOf c) eu) (eb ∙ ap (productOf c) ev) ∙ ap (map (wholeEntry floats c)) e)
 
 module _ (p q : ℕ) (c : Complex) (n r at : ℕ) (s : Arrays) where
   pub noise-past : 317 < at → s ≡ written at (noiseValues p q c n r) s

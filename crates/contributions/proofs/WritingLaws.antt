@@ -22,7 +22,7 @@ use Rattle.master_equation.specs.Numbers.{Numbers}
 use Rattle.rows.specs.Floats.{floats}
 use Rattle.master_equation.specs.Contributions.{operatorTerms, commutatorTerms, noiseTerms}
 use Rattle.row_entries.specs.Entries.{operatorEntry, commutatorEntries, noiseEntries}
-use Rattle.contributions.specs.Values.{whole, jumpAndHalves, commutatorValues, noiseValues, Arrays, written}
+use Rattle.contributions.specs.Values.{wholeEntry, jumpAndHalves, commutatorValues, noiseValues, Arrays, written}
 use Rattle.rows.specs.Buffers.{TwoParts, mostEntries, floatParts, Long, entriesIn, entries}
 use Rattle.rows.proofs.ArrayLaws.{entriesIn-none}
 use Rattle.row_entries.proofs.EntryLaws.{of-kind}
@@ -94,8 +94,8 @@ module _ (t : Term) (n r : ℕ) where
   commutator-values : {m : ℕ} {c : Complex} → m ≡ masksOf (t .items) → c ≡ t .coefficient → Accepted n (2 ^ n * 2 ^ n) r (t .items ∷ []) → commutatorValues m c n r ≡ commutatorPart n r t
   unfolding commutatorValues
   commutator-values em ec k =
-      ap₂ (λ (m : ℕ) (c : Complex). map (whole floats c) (commutatorEntries m (min n mostSpins) r)) em ec
-      ∙ few-spins (λ s. map (whole floats (t .coefficient)) (commutatorEntries (masksOf (t .items)) s r)) n (k .few) refl
+      ap₂ (λ (m : ℕ) (c : Complex). map (wholeEntry floats c) (commutatorEntries m (min n mostSpins) r)) em ec
+      ∙ few-spins (λ s. map (wholeEntry floats (t .coefficient)) (commutatorEntries (masksOf (t .items)) s r)) n (k .few) refl
       ∙ sym (commutator-terms floats (t .coefficient) n r (k .below) (t .items) (accepted-first (t .items) [] k))
 
   -- the arrays after them

@@ -15,20 +15,20 @@ use Rattle.row_entries.specs.Entries.{commutatorEntries, noiseEntries}
 
 module _ {C N : Type 0} (A : Numbers C N) (c : C) where
   -- an entry as a contribution: i^k times the coefficient, and i^k times -1/2 times the coefficient
-  abbrev pub whole : ℕ × ℕ → ℕ × N
-  whole e = (e .0, A .scaled (e .1) c)
+  abbrev pub wholeEntry : ℕ × ℕ → ℕ × N
+  wholeEntry e = (e .0, A .scaled (e .1) c)
 
-  abbrev pub half : ℕ × ℕ → ℕ × N
-  half e = (e .0, A .minusHalf (e .1) c)
+  abbrev pub halfEntry : ℕ × ℕ → ℕ × N
+  halfEntry e = (e .0, A .minusHalf (e .1) c)
 
   -- the entries of a noise row: the first whole, the others by -1/2
   abbrev pub jumpAndHalves : List (ℕ × ℕ) → List (ℕ × N)
   jumpAndHalves [] = []
-  jumpAndHalves (jump ∷ rest) = whole jump ∷ map half rest
+  jumpAndHalves (jump ∷ rest) = wholeEntry jump ∷ map halfEntry rest
 
 -- of the Pauli product with the masks p to a commutator's row r over n spins: its left half, then its right half
 unfoldable pub commutatorValues : ℕ → Complex → ℕ → ℕ → List (ℕ × Complex)
-commutatorValues p c n r = map (whole floats c) (commutatorEntries p (min n mostSpins) r)
+commutatorValues p c n r = map (wholeEntry floats c) (commutatorEntries p (min n mostSpins) r)
 
 -- of the pair of decoherence products with the masks p and q to a noise row r over n spins
 unfoldable pub noiseValues : ℕ → ℕ → Complex → ℕ → ℕ → List (ℕ × Complex)

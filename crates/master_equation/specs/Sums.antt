@@ -33,9 +33,9 @@ orderedSum sum first [] = first
 orderedSum sum first (x ∷ xs) = orderedSum sum (sum first x) xs
 
 -- the numbers of one column as one number: none where there are none
-unfoldable pub summed : {N : Type 0} → (N → N → N) → List N → List N
-summed sum [] = []
-summed sum (x ∷ xs) = orderedSum sum x xs ∷ []
+unfoldable pub sumIfAny : {N : Type 0} → (N → N → N) → List N → List N
+sumIfAny sum [] = []
+sumIfAny sum (x ∷ xs) = orderedSum sum x xs ∷ []
 
 -- ---- over whole numbers
 

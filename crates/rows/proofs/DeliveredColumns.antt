@@ -8,7 +8,7 @@ use Prim.Native.Nat.{ℕ}
 use lib.Dec.{eqb}
 use Rattle.master_equation.specs.Numbers.{Numbers}
 use Rattle.rows.specs.Placing.{rowOf, nonzero, keptBy, rowIn, openRowIn}
-use Rattle.master_equation.specs.Sums.{hasColumn, contributionsTo, summed}
+use Rattle.master_equation.specs.Sums.{hasColumn, contributionsTo, sumIfAny}
 use Rattle.rows.proofs.PlacingLaws.{row-numbers, placeAll-columns}
 
 -- the numbers that are not zero
@@ -34,12 +34,12 @@ module _ {N : Type 0} (isZero : N → Bool) where
 -- the rows that contracts name, over any numbers A
 module _ {C N : Type 0} (A : Numbers C N) (c : ℕ) where
   -- a row with zero sums has a column exactly where there are contributions to it, with their ordered sum
-  pub kept-columns : (es : List (ℕ × N)) → contributionsTo c (rowIn A true es) ≡ summed (A .sum) (contributionsTo c es)
+  pub kept-columns : (es : List (ℕ × N)) → contributionsTo c (rowIn A true es) ≡ sumIfAny (A .sum) (contributionsTo c es)
   unfolding rowIn keptBy
   kept-columns es = row-numbers (A .sum) c es
 
   -- a row without them has a column exactly where that sum is there and not zero
-  pub commutator-columns : (es : List (ℕ × N)) → contributionsTo c (rowIn A false es) ≡ withoutZeros (A .isZero) (summed (A .sum) (contributionsTo c es))
+  pub commutator-columns : (es : List (ℕ × N)) → contributionsTo c (rowIn A false es) ≡ withoutZeros (A .isZero) (sumIfAny (A .sum) (contributionsTo c es))
   unfolding rowIn keptBy
   commutator-columns es = nonzero-numbers (A .isZero) c (rowOf (A .sum) es) ∙ ap (withoutZeros (A .isZero)) (row-numbers (A .sum) c es)
 

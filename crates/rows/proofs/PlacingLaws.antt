@@ -11,7 +11,7 @@ use Rattle.letters.specs.Gauss.{G, 𝟘, _⊕_, eqG}
 use Rattle.letters.proofs.GaussLaws.{ring, ⊕-assoc, 𝟘-⊕, ⊕-𝟘, eqG-true}
 use Rattle.master_equation.specs.Numbers.{Numbers, halves}
 use Rattle.rows.specs.Placing.{placed, placeAll, rowOf, nonzero, keptBy, rowIn, openRowIn}
-use Rattle.master_equation.specs.Sums.{Ascending, Below, hasColumn, contributionsTo, orderedSum, summed, partAt, sumAt, valueAt}
+use Rattle.master_equation.specs.Sums.{Ascending, Below, hasColumn, contributionsTo, orderedSum, sumIfAny, partAt, sumAt, valueAt}
 
 -- ---- ascending columns
 
@@ -149,8 +149,8 @@ module _ {N : Type 0} (sum : N → N → N) where
   gathered-one x [] = refl
   gathered-one x (y ∷ ys) = gathered-one (sum x y) ys
 
-  gathered-none : (ys : List N) → gathered [] ys ≡ summed sum ys
-  unfolding summed gathered more
+  gathered-none : (ys : List N) → gathered [] ys ≡ sumIfAny sum ys
+  unfolding sumIfAny gathered more
   gathered-none [] = refl
   gathered-none (y ∷ ys) = gathered-one y ys
 
@@ -195,7 +195,7 @@ module _ {N : Type 0} (sum : N → N → N) where
       go false q = ap (λ l. gathered l (contributionsTo c es)) (placed-elsewhere c e row (eqb-false c (e .0) q))
 
   -- a row has a number at column c exactly where there are contributions to it, and one only: their ordered sum
-  pub row-numbers : (c : ℕ) (es : List (ℕ × N)) → contributionsTo c (rowOf sum es) ≡ summed sum (contributionsTo c es)
+  pub row-numbers : (c : ℕ) (es : List (ℕ × N)) → contributionsTo c (rowOf sum es) ≡ sumIfAny sum (contributionsTo c es)
   unfolding rowOf Ascending contributionsTo
   row-numbers c es = placeAll-numbers c es [] tt ∙ gathered-none (contributionsTo c es)
 
