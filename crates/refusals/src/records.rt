@@ -21,6 +21,11 @@ const ROOT: f64 = 1427247692705959881058285969449495136382746624.0;
 // 2^40, the largest whole part.
 const WHOLE: f64 = 1099511627776.0;
 
+// The next f64 above 1, and 2^248, what 2^300 lacks of the next one above it.
+const NEXT: f64 = 1.0000000000000002;
+
+const GAP: f64 = 452312848583266388373324160190187140051835877600158453279131187530910662656.0;
+
 // A site or a letter.
 pub(crate) fn small(x: u64) -> u8 {
     (x % 256) as u8
@@ -53,6 +58,10 @@ fn part(code: u64) -> f64 {
         17 => WHOLE + 1.0,
         18 => -WHOLE,
         19 => -WHOLE - 1.0,
+        20 => NEXT,
+        21 => GAP,
+        22 => -GAP,
+        23 => 1.0 / LIMIT / LIMIT,
         _ => 0.0,
     }
 }
@@ -77,6 +86,18 @@ pub(crate) fn two_items(count: usize, s: u8, x: u8, t: u8, y: u8) -> Items {
     p
 }
 
+// A record with the first and the last place written.
+fn outer_items(count: usize, s: u8, x: u8, t: u8, y: u8) -> Items {
+    let none = PauliProduct::new();
+    let mut p = none.items;
+    p.sites[0] = s;
+    p.letters[0] = x;
+    p.sites[30] = t;
+    p.letters[30] = y;
+    p.count = count;
+    p
+}
+
 // X on each of the sites 0 to 30, under a count.
 fn all_sites(count: usize) -> Items {
     let none = PauliProduct::new();
@@ -93,19 +114,21 @@ fn all_sites(count: usize) -> Items {
     p
 }
 
-// A product: its count, then twice two digits for a site and one for its letter. From 30 on X stands on each site.
+// A product: its count, then twice two digits for a site and one for its letter. From 30 on X stands on each site. A digit before the
+// count's two puts the second letter at the last place.
 pub(crate) fn product(x: u64) -> Items {
-    let count = (x / 1000000) as usize;
+    let count = (x / 1000000 % 100) as usize;
     if 29 < count {
         return all_sites(count);
     }
-    two_items(
-        count,
-        small(x / 10000 % 100),
-        small(x / 1000 % 10),
-        small(x / 10 % 100),
-        small(x % 10),
-    )
+    let s = small(x / 10000 % 100);
+    let l = small(x / 1000 % 10);
+    let t = small(x / 10 % 100);
+    let m = small(x % 10);
+    if x < 100000000 {
+        return two_items(count, s, l, t, m);
+    }
+    outer_items(count, s, l, t, m)
 }
 
 // The targets 0 to 30 with three of them replaced: a spin, then three digits for its target.
