@@ -5,7 +5,8 @@ use mathlib.Core.Path.{_≡_, refl, sym, ap, _∙_, subst}
 use mathlib.Core.Bool.{Bool, true, false, cond}
 use mathlib.Core.List.{List, [], _∷_, _++_}
 use mathlib.Core.Option.{Option, none, some}
-use Rattle.refusal.specs.Refusals.{Said, gives, outcome-known}
+use Rattle.refusal.specs.Refusals.{Said, gives}
+use Rattle.refusal.proofs.RefusalLaws.{outcome-known}
 use Rattle.refusal.specs.declared.Outcome.{Outcome}
 use Rattle.refusal.specs.declared.Refusal.{Refusal}
 use Rattle.complex.specs.Complex.{sumOf, inRange}

@@ -1,7 +1,7 @@
 -- What an answer about a Hamiltonian says determines it: the readings that the contracts name are one to one.
 -- Assumes nothing.
 use mathlib.Core.Path.{_≡_}
-use Rattle.refusal.specs.Refusals.{outcome-known}
+use Rattle.refusal.proofs.RefusalLaws.{outcome-known}
 use Rattle.hamiltonians.specs.RealAnswers.{toldSet, told}
 use Rattle.hamiltonians.specs.declared.pauli_hamiltonian.HamiltonianAfterSet.{HamiltonianAfterSet}
 use Rattle.hamiltonians.specs.declared.pauli_hamiltonian.HamiltonianAnswer.{HamiltonianAnswer}

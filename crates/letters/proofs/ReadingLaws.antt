@@ -2,7 +2,7 @@
 use mathlib.Core.Path.{_≡_, refl, ap}
 use Prim.Native.Nat.{ℕ}
 use lib.Ieee.{Float}
-use Rattle.refusal.specs.Refusals.{refusal-is, answerOf, reading-known}
+use Rattle.refusal.proofs.RefusalLaws.{refusal-is, answerOf, reading-known}
 use Rattle.complex.specs.declared.Complex.{Complex}
 use Rattle.letters.specs.Answers.{saidLetter, saidComplex, saidSigned}
 use Rattle.letters.specs.declared.LetterAnswer.{LetterAnswer}

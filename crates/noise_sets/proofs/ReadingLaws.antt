@@ -1,7 +1,7 @@
 -- What an answer about a noise set says determines it: the readings that the contracts name are one to one.
 -- Assumes nothing.
 use mathlib.Core.Path.{_≡_}
-use Rattle.refusal.specs.Refusals.{outcome-known}
+use Rattle.refusal.proofs.RefusalLaws.{outcome-known}
 use Rattle.term_sets.proofs.ReadingLaws.{set-answer-known}
 use Rattle.noise_sets.specs.Answers.{toldSet, told}
 use Rattle.noise_sets.specs.declared.NoiseSetAfterSet.{NoiseSetAfterSet}

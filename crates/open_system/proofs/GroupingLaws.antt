@@ -2,7 +2,8 @@
 -- Assumes nothing.
 use mathlib.Core.Path.{_≡_, ap}
 use mathlib.Core.Bool.{true}
-use Rattle.refusal.specs.Refusals.{Said, done, outcome-known}
+use Rattle.refusal.specs.Refusals.{Said, done}
+use Rattle.refusal.proofs.RefusalLaws.{outcome-known}
 use Rattle.terms.proofs.AnswerLaws.{Answered, answered-past, answered-given}
 use Rattle.hamiltonians.specs.Reals as reals
 use Rattle.hamiltonians.specs.declared.pauli_hamiltonian.PauliHamiltonian.{PauliHamiltonian}

@@ -1,7 +1,7 @@
 -- What an answer about an operator says determines it: the readings that the contracts name are one to one.
 -- Assumes nothing.
 use mathlib.Core.Path.{_≡_}
-use Rattle.refusal.specs.Refusals.{outcome-known}
+use Rattle.refusal.proofs.RefusalLaws.{outcome-known}
 use Rattle.operators.specs.Kinds.{toldPauliSet, toldPauli, toldDecoherenceSet, toldDecoherence}
 use Rattle.operators.specs.declared.pauli_operator.PauliOperatorAfterSet.{PauliOperatorAfterSet}
 use Rattle.operators.specs.declared.pauli_operator.PauliOperatorAnswer.{PauliOperatorAnswer}

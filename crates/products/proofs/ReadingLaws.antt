@@ -2,7 +2,7 @@
 use mathlib.Core.Path.{_≡_, refl, ap}
 use mathlib.Core.List.{List, [], _∷_}
 use Prim.Native.Nat.{ℕ}
-use Rattle.refusal.specs.Refusals.{refusal-is, answerOf, reading-known, outcome-known}
+use Rattle.refusal.proofs.RefusalLaws.{refusal-is, answerOf, reading-known, outcome-known}
 use Rattle.complex.specs.declared.Complex.{Complex}
 use Rattle.merging.specs.SiteAnswers.{saidGot}
 use Rattle.row_entries.specs.Answers.{saidRow}

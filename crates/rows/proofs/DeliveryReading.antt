@@ -1,7 +1,7 @@
 -- The reading of a delivery is one to one: it is known by what it says.
 -- Assumes nothing.
 use mathlib.Core.Path.{_≡_, refl, ap}
-use Rattle.refusal.specs.Refusals.{refusal-is, answerOf, reading-known}
+use Rattle.refusal.proofs.RefusalLaws.{refusal-is, answerOf, reading-known}
 use Rattle.rows.specs.Buffers.{saidDelivery}
 use Rattle.rows.specs.declared.Delivery.{Delivery}
 

@@ -2,7 +2,7 @@
 -- Assumes nothing.
 use mathlib.Core.Path.{_≡_, refl, ap}
 use mathlib.Core.List.{List, [], _∷_}
-use Rattle.refusal.specs.Refusals.{refusal-is, answerOf, reading-known, outcome-known}
+use Rattle.refusal.proofs.RefusalLaws.{refusal-is, answerOf, reading-known, outcome-known}
 use Rattle.complex.specs.declared.Complex.{Complex}
 use Rattle.term_sets.specs.Answers.{saidGet, saidSet, toldSet, told}
 use Rattle.term_sets.specs.declared.GetAnswer.{GetAnswer}
