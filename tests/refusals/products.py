@@ -42,11 +42,11 @@ def one_site(kind):
 
 def whole_products(kind):
     q = two(3, 1, 5, 2)
-    on_product(kind, 12, "multiply", [("well-formed", [X3, X3], None)] + SIDES)
+    on_product(kind, 12, "multiply", [("well-formed", [X3, X3], None)] + SIDES, POWER_BEFORE)
     on_product(kind, 15, "cmp", [("well-formed", [X3, X3], None)] + SIDES, "")
-    on_product(kind, 16, "hermitian_conjugate", ALONE)
+    on_product(kind, 16, "hermitian_conjugate", ALONE, POWER_BEFORE)
     for name, numbers, answer in ALONE:
-        case("DecoherenceProduct " + ["spin_to_decoherence", "decoherence_to_spin"][kind], name, [17, kind] + numbers, answer, ANEW)
+        case("DecoherenceProduct " + ["spin_to_decoherence", "decoherence_to_spin"][kind], name, [17, kind] + numbers, answer, POWER_ANEW)
     on_product(kind, 13, "concatenate", SIDES + [
         ("0Z and 0X", [Z0, X0], (3, 0)), ("3X5Y and 4Z6Z", [q, two(4, 3, 6, 3)], None), ("3X5Y and 4Z5Z", [q, two(4, 3, 5, 3)], (3, 5)),
         ("3X5Y and 3Z5Z", [q, two(3, 3, 5, 3)], (3, 3)),

@@ -1,11 +1,13 @@
 // Our answers beside those written at the end of a record.
 use crate::entries::TermsAnswer;
+use crate::forms::ReadProduct;
 use crate::forms::noise_terms;
 use crate::forms::product;
 use crate::forms::terms;
+use crate::reader::ReadNumber;
 use crate::reader::byte;
-use crate::reader::float;
 use crate::reader::number;
+use crate::reader::sign;
 use crate::verdict::Verdict;
 use crate::verdict::agreed;
 use crate::verdict::is_refused;
@@ -33,32 +35,47 @@ pub(crate) fn product_told(s: &[u8], at: usize, outcome: Outcome, items: Items) 
     settled(s, p.next, worse(refused_if(is_refused(outcome)), v))
 }
 
-// A product and its factor.
+// Whether a power of i, 0 to 3, is the Rust's number.
+pub(crate) fn is_power(power: u8, told: Complex) -> bool {
+    power <= 3 && same_number(false, complex::unit_of_i(power), told)
+}
+
+// A product and its power of i, beside the Rust's product and number.
+fn power_told(
+    s: &[u8],
+    p: ReadProduct,
+    z: ReadNumber,
+    outcome: Outcome,
+    items: Items,
+    power: u8,
+) -> Verdict {
+    let told = p.items;
+    let value = z.value;
+    let v = worse(
+        agreed(same_items(items, told)),
+        agreed(is_power(power, value)),
+    );
+    settled(s, z.next, worse(refused_if(is_refused(outcome)), v))
+}
+
+// The same, where the Rust has a complex factor.
 pub(crate) fn factor_told(
     s: &[u8],
     at: usize,
     outcome: Outcome,
     items: Items,
-    factor: Complex,
+    power: u8,
 ) -> Verdict {
     let p = product(s, at);
     let z = number(s, p.next);
-    let told = p.items;
-    let value = z.value;
-    let v = worse(
-        agreed(same_items(items, told)),
-        agreed(same_number(false, factor, value)),
-    );
-    settled(s, z.next, worse(refused_if(is_refused(outcome)), v))
+    power_told(s, p, z, outcome, items, power)
 }
 
-// A product and its sign.
-pub(crate) fn sign_told(s: &[u8], at: usize, outcome: Outcome, items: Items, sign: f64) -> Verdict {
+// The same, where it has a sign.
+pub(crate) fn sign_told(s: &[u8], at: usize, outcome: Outcome, items: Items, power: u8) -> Verdict {
     let p = product(s, at);
-    let x = float(s, p.next);
-    let told = p.items;
-    let v = worse(agreed(same_items(items, told)), agreed(sign == x.value));
-    settled(s, x.next, worse(refused_if(is_refused(outcome)), v))
+    let z = sign(s, p.next);
+    power_told(s, p, z, outcome, items, power)
 }
 
 // A product, or the site at which 3 refused it.

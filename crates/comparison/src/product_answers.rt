@@ -78,12 +78,12 @@ fn multiply(kind: Kind, s: &[u8], at: usize) -> Verdict {
         Kind::Pauli => {
             let a = pauli(left).multiply(pauli(right));
             let outcome = a.outcome;
-            factor_told(s, q.next, outcome, a.product.items, a.factor)
+            factor_told(s, q.next, outcome, a.product.items, a.power)
         }
         Kind::Decoherence => {
             let a = decoherence(left).multiply(decoherence(right));
             let outcome = a.outcome;
-            factor_told(s, q.next, outcome, a.product.items, a.factor)
+            factor_told(s, q.next, outcome, a.product.items, a.power)
         }
     }
 }
@@ -125,12 +125,12 @@ fn conjugate(kind: Kind, s: &[u8], at: usize) -> Verdict {
         Kind::Pauli => {
             let a = pauli(items).hermitian_conjugate();
             let outcome = a.outcome;
-            sign_told(s, p.next, outcome, a.product.items, a.factor)
+            sign_told(s, p.next, outcome, a.product.items, a.power)
         }
         Kind::Decoherence => {
             let a = decoherence(items).hermitian_conjugate();
             let outcome = a.outcome;
-            sign_told(s, p.next, outcome, a.product.items, a.factor)
+            sign_told(s, p.next, outcome, a.product.items, a.power)
         }
     }
 }
@@ -154,12 +154,12 @@ fn convert(kind: Kind, s: &[u8], at: usize) -> Verdict {
         Kind::Pauli => {
             let a = DecoherenceProduct::spin_to_decoherence(pauli(items));
             let outcome = a.outcome;
-            factor_told(s, p.next, outcome, a.product.items, a.factor)
+            factor_told(s, p.next, outcome, a.product.items, a.power)
         }
         Kind::Decoherence => {
             let a = decoherence(items).decoherence_to_spin();
             let outcome = a.outcome;
-            factor_told(s, p.next, outcome, a.product.items, a.factor)
+            factor_told(s, p.next, outcome, a.product.items, a.power)
         }
     }
 }

@@ -113,3 +113,15 @@ pub(crate) fn number(s: &[u8], at: usize) -> ReadNumber {
         next: im.next,
     }
 }
+
+// A sign x, as the number x + 0i.
+pub(crate) fn sign(s: &[u8], at: usize) -> ReadNumber {
+    let x = float(s, at);
+    ReadNumber {
+        value: Complex {
+            re: x.value,
+            im: 0.0,
+        },
+        next: x.next,
+    }
+}

@@ -1,44 +1,26 @@
--- The factors of the single-site entries: an accepted answer says the matrices' product, conjugate or conversion, the unit of two f64 is its power of i,
--- and the powers of decoherence products and of conjugates are even: "Factors are +1 or -1 except in conversions". Assumes nothing.
-use mathlib.Core.Path.{_≡_, refl, sym, ap, ap₂, _∙_, subst}
+-- The powers of i that the single-site entries answer. An accepted answer says the matrices' product, conjugate or conversion; its number is 0 to 3, and
+-- the matrices leave no other; of decoherence products and of conjugates it is 0 or 2: "Factors are +1 or -1 except in conversions". Assumes nothing.
+use mathlib.Core.Path.{_≡_, refl, sym, ap, ap₂, _∙_}
 use mathlib.Core.Bool.{Bool, true, false, _||_, cond}
 use mathlib.Core.List.{[]}
-use mathlib.Core.Logic.{_⊎_, ⊎-map}
-use Prim.Native.Nat.{ℕ, zero, suc, _+_, _*_, _%_, _≤_, _<_}
+use mathlib.Core.Logic.{_⊎_, inl, inr}
+use Prim.Native.Nat.{ℕ, zero, suc, _+_, _*_, _/_, _%_, _≤_, _<_}
 use native.Mathlib.Omega.{arith}
-use native.Mathlib.Nat.{mod-lt}
 use lib.Dec.{eqb, ltb}
-use lib.Ieee.{Float, ofBits, ofInt}
 use lib.ListN.{getD}
-use borrow.Author.Tests.{eqb-true, ltb-false, le-ltb}
-use Rattle.refusal.specs.Refusals.{Said, gives, refuses}
-use Rattle.complex.specs.Complex.{plusOne, minusOne, unitOf, unitOfI}
-use Rattle.complex.proofs.UnitLaws.{even-unit}
+use borrow.Author.Tests.{eqb-true, eq-eqb, ltb-false, le-ltb}
+use Rattle.refusal.specs.Refusals.{gives, refuses}
 use Rattle.letters.specs.Tests.{every}
-use Rattle.letters.specs.Gauss.{𝟙, i⁺, _⊗_, i^}
-use Rattle.letters.specs.Matrices.{decoherence, lettersOf, product, adjoint}
-use Rattle.letters.specs.Single.{letterOf, powerOf, times, conjugated, converted}
-use Rattle.letters.specs.Answers.{other, decoded, asSign, inFloats, multiplyLetters, conjugateLetter, convertLetter, highestLetter}
+use Rattle.letters.specs.Gauss.{𝟘, _⊗_, i^}
+use Rattle.letters.specs.Matrices.{Letters, decoherence, lettersOf, product, adjoint}
+use Rattle.letters.specs.Single.{letterOf, powerOf, times, conjugated, converted, cell}
+use Rattle.letters.specs.Answers.{other, decoded, multiplyLetters, conjugateLetter, convertLetter, highestLetter}
 use Rattle.letters.specs.declared.Kind.{Kind}
 use Rattle.letters.specs.declared.Kind.the-variants.{Pauli, Decoherence}
 use Rattle.letters.proofs.TestLaws.{every-at, neither}
-use Rattle.letters.proofs.GaussLaws.{i^-mod}
-use Rattle.letters.proofs.TableLaws.{closed, converts, times-right, conjugated-right, converted-right}
+use Rattle.letters.proofs.GaussLaws.{i^-known-beside}
+use Rattle.letters.proofs.TableLaws.{Closed, closed, converts, times-right, conjugated-right, converted-right}
 use Rattle.letters.proofs.Codes.{codes, conjugateCodes, times-code, conjugated-code}
-
--- ---- the unit of two f64
-
--- it is the power of i that the theorems on matrices have
-pub unit-exact : (k : ℕ) → unitOfI k ≡ inFloats (i^ k)
-unfolding unitOfI unitOf ofBits ofInt i^ _⊗_ i⁺ 𝟙
-unit-exact k = go (k % 4) (mod-lt k (omega arith)) ∙ ap inFloats (i^-mod k)
-  where
-    go : (j : ℕ) → j < 4 → unitOf j ≡ inFloats (i^ j)
-    go zero h = refl
-    go (suc zero) h = refl
-    go (suc (suc zero)) h = refl
-    go (suc (suc (suc zero))) h = refl
-    go (suc (suc (suc (suc j)))) h = absurd (omega arith)
 
 -- ---- what an accepted answer says
 
@@ -54,16 +36,32 @@ given false e c k h =
     let g : _≡_ {A = ℕ × ℕ} (letterOf e, powerOf e) (c, k) = cc in
     record { passed = refl; letter = ap (λ x. x .0) g; power = ap (λ x. x .1) g }
 
+-- of two letters up to 3
+record GivenOfTwo (l r e c k : ℕ) : Type 0 where
+  left : l < 4
+  right : r < 4
+  letter : letterOf e ≡ c
+  power : powerOf e ≡ k
+
+multiplied : (M : Letters) (l r c k : ℕ) → multiplyLetters M l r ≡ gives (c, k) → GivenOfTwo l r (times M l r) c k
+unfolding multiplyLetters
+multiplied M l r c k e =
+    let g = given (ltb highestLetter l || ltb highestLetter r) (times M l r) c k e in
+    let s = neither (ltb highestLetter l) (ltb highestLetter r) (g .passed) in
+    record {
+      left = omega (arith, ltb-false highestLetter l (s .0));
+      right = omega (arith, ltb-false highestLetter r (s .1));
+      letter = g .letter;
+      power = g .power;
+    }
+
 -- the product of two letters' matrices
 pub multiply-letter-right : (kind : Kind) (l r c k : ℕ) → multiplyLetters (lettersOf kind) l r ≡ gives (c, k) → (x y : ℕ) → x < 2 → y < 2
     → product (lettersOf kind l) (lettersOf kind r) x y ≡ i^ k ⊗ lettersOf kind c x y
-unfolding multiplyLetters
 multiply-letter-right kind l r c k e x y hx hy =
     let M = lettersOf kind in
-    let g = given (ltb highestLetter l || ltb highestLetter r) (times M l r) c k e in
-    let s = neither (ltb highestLetter l) (ltb highestLetter r) (g .passed) in
-    times-right M (closed kind) l r (omega (arith, ltb-false highestLetter l (s .0))) (omega (arith, ltb-false highestLetter r (s .1))) x y hx hy
-    ∙ ap₂ (λ k c. i^ k ⊗ M c x y) (g .power) (g .letter)
+    let g = multiplied M l r c k e in
+    times-right M (closed kind) l r (g .left) (g .right) x y hx hy ∙ ap₂ (λ k c. i^ k ⊗ M c x y) (g .power) (g .letter)
 
 -- the conjugate transpose of a letter's matrix
 pub conjugate-letter-right : (kind : Kind) (l c k : ℕ) → conjugateLetter (lettersOf kind) l ≡ gives (c, k) → (x y : ℕ) → x < 2 → y < 2
@@ -83,6 +81,40 @@ convert-letter-right kind l c k e x y hx hy =
     let g = given (ltb highestLetter l) (converted (lettersOf kind) M′ l) c k e in
     converted-right (lettersOf kind) M′ (converts kind (other kind)) l (omega (arith, ltb-false highestLetter l (g .passed))) x y hx hy
     ∙ ap₂ (λ k c. i^ k ⊗ M′ c x y) (g .power) (g .letter)
+
+-- ---- the number
+
+-- that of one of the sixteen is 0 to 3
+power-below : {e k : ℕ} → powerOf e ≡ k → e < 16 → k < 4
+power-below p h = omega arith
+
+pub multiply-letter-below : (kind : Kind) (l r c k : ℕ) → multiplyLetters (lettersOf kind) l r ≡ gives (c, k) → k < 4
+multiply-letter-below kind l r c k e =
+    let g = multiplied (lettersOf kind) l r c k e in
+    power-below (g .power) (closed kind .times-lt l r (g .left) (g .right))
+
+pub conjugate-letter-below : (kind : Kind) (l c k : ℕ) → conjugateLetter (lettersOf kind) l ≡ gives (c, k) → k < 4
+unfolding conjugateLetter
+conjugate-letter-below kind l c k e =
+    let g = given (ltb highestLetter l) (conjugated (lettersOf kind) l) c k e in
+    power-below (g .power) (closed kind .conjugated-lt l (omega (arith, ltb-false highestLetter l (g .passed))))
+
+pub convert-letter-below : (kind : Kind) (l c k : ℕ) → convertLetter (lettersOf kind) (lettersOf (other kind)) l ≡ gives (c, k) → k < 4
+unfolding convertLetter
+convert-letter-below kind l c k e =
+    let g = given (ltb highestLetter l) (converted (lettersOf kind) (lettersOf (other kind)) l) c k e in
+    power-below (g .power) (converts kind (other kind) .converted-lt l (omega (arith, ltb-false highestLetter l (g .passed))))
+
+-- a letter's matrix leaves one such number in front of it
+pub one-letter-power : (kind : Kind) (c : ℕ) → c < 4 → (j k : ℕ) → j < 4 → k < 4
+    → ((x y : ℕ) → x < 2 → y < 2 → i^ j ⊗ lettersOf kind c x y ≡ i^ k ⊗ lettersOf kind c x y) → j ≡ k
+one-letter-power kind c h j k hj hk e =
+    let M = lettersOf kind in
+    let y = cell M c 0 % 2 in
+    let hy : y < 2 = omega arith in
+    let entry = closed kind .cell-right c 0 y h (omega arith) hy ∙ ap (λ t. cond t (i^ (cell M c 0 / 2)) 𝟘) (eq-eqb y y refl) in
+    let same = e 0 y (omega arith) hy in
+    i^-known-beside (cell M c 0 / 2) j k hj hk (rw entry at same)
 
 -- ---- even powers
 
@@ -117,32 +149,29 @@ conjugated-power kind l h =
 
 -- ---- the signs of the single-site entries
 
--- a sign that is given is the real part of the power's unit
-sign-given : (a : Said (ℕ × ℕ)) (c : ℕ) (x : Float) → asSign a ≡ gives (c, x) → (k : ℕ) × (a ≡ gives (c, k)) × (unitOfI k .re ≡ x)
-sign-given (gives a) c x e =
-    let g : _≡_ {A = ℕ × Float} (a .0, unitOfI (a .1) .re) (c, x) = cc in
-    (a .1, ap (λ z. gives (z .0, a .1)) g, ap (λ z. z .1) g)
-sign-given (refuses n s) c x e = let z : _≡_ {A = ℕ} 0 1 = cc in absurd (omega arith)
+-- +1 or -1: the power is 0 or 2
+abbrev pub Sign : ℕ → Type 0
+Sign k = (k ≡ 0) ⊎ (k ≡ 2)
 
--- the product of two decoherence letters: +1 or -1
-pub multiply-letter-sign : (l r c : ℕ) (x : Float) → asSign (multiplyLetters decoherence l r) ≡ gives (c, x) → (x ≡ plusOne) ⊎ (x ≡ minusOne)
-unfolding multiplyLetters
-multiply-letter-sign l r c x e =
-    let h = sign-given (multiplyLetters decoherence l r) c x e in
-    let g = given (ltb highestLetter l || ltb highestLetter r) (times decoherence l r) c (h .0) (h .1) in
-    let s = neither (ltb highestLetter l) (ltb highestLetter r) (g .passed) in
-    let even = times-even l r (omega (arith, ltb-false highestLetter l (s .0))) (omega (arith, ltb-false highestLetter r (s .1))) in
-    subst (λ x. (x ≡ plusOne) ⊎ (x ≡ minusOne)) (h .2)
-    (⊎-map (ap (λ z. z .re)) (ap (λ z. z .re)) (even-unit (h .0) (rw (g .power) at even)))
+-- an even number from 0 to 3
+pub even-sign : (k : ℕ) → k < 4 → k % 2 ≡ 0 → Sign k
+even-sign zero h e = inl refl
+even-sign (suc zero) h e = absurd (omega arith)
+even-sign (suc (suc zero)) h e = inr refl
+even-sign (suc (suc (suc zero))) h e = absurd (omega arith)
+even-sign (suc (suc (suc (suc k)))) h e = absurd (omega arith)
 
--- the conjugate of a decoherence letter: the letter itself, with -1 for iY
-pub conjugate-letter-sign : (l : ℕ) → l ≤ highestLetter → asSign (conjugateLetter decoherence l) ≡ gives (l, cond (eqb l 2) minusOne plusOne)
-unfolding conjugateLetter lettersOf unitOfI unitOf
-conjugate-letter-sign l h =
+-- the product of two decoherence letters
+pub multiply-letter-sign : (l r c k : ℕ) → multiplyLetters decoherence l r ≡ gives (c, k) → Sign k
+unfolding lettersOf
+multiply-letter-sign l r c k e =
+    let g = multiplied decoherence l r c k e in
+    let even = times-even l r (g .left) (g .right) in
+    even-sign k (multiply-letter-below Decoherence l r c k e) (rw (g .power) at even)
+
+-- the conjugate of a letter: the letter itself, with the power 2 for iY
+pub conjugate-letter-whole : (kind : Kind) (l : ℕ) → l ≤ highestLetter → conjugateLetter (lettersOf kind) l ≡ gives (l, cond (eqb l 2) (conjugatePower kind) 0)
+unfolding conjugateLetter
+conjugate-letter-whole kind l h =
     rw (le-ltb highestLetter l h)
-    (ap₂ (λ c k. gives (c, unitOfI k .re)) (closed Decoherence .conjugated-letter l (omega arith)) (conjugated-power Decoherence l (omega arith))
-    ∙ go (eqb l 2))
-  where
-    go : (b : Bool) → _≡_ {A = Said (ℕ × Float)} (gives (l, unitOfI (cond b 2 0) .re)) (gives (l, cond b minusOne plusOne))
-    go true = refl
-    go false = refl
+    (ap₂ (λ c k. gives (c, k)) (closed kind .conjugated-letter l (omega arith)) (conjugated-power kind l (omega arith)))

@@ -2,10 +2,11 @@
 -- Assumes nothing.
 use mathlib.Core.Path.{_≡_, refl, sym, _∙_, ap, ap₂}
 use mathlib.Core.Bool.{true, false≢true}
-use Prim.Native.Nat.{ℕ, zero, suc, _+_, _*_, _/_, _%_}
+use Prim.Native.Nat.{ℕ, zero, suc, _+_, _*_, _/_, _%_, _<_}
 use native.Mathlib.Omega.{arith}
 use borrow.Author.Tests.{eqb-true, eq-eqb}
 use lib.IntN.{ℤ, pos, negsuc, sucℤ, predℤ, negℤ, _+ℤ_, _*ℤ_, negℤ-negℤ, negℤ-+ℤ, +ℤ-idl, +ℤ-idr, +ℤ-assoc, +ℤ-comm, +ℤ-invl, +ℤ-invr, zero-*ℤ, *ℤ-zero, *ℤ-comm, sucℤ-*ℤ, predℤ-*ℤ, natAbs}
+use Rattle.letters.specs.Tests.{firstFrom}
 use Rattle.letters.specs.Gauss.{G, 𝟘, 𝟙, −𝟙, i⁺, i⁻, _⊕_, ⊝, _⊗_, conj, i^, eqℤ, eqG}
 use Rattle.letters.proofs.TestLaws.{and-true, and-left, and-right}
 
@@ -320,6 +321,30 @@ one-not-zero e = let p : _≡_ {A = ℕ} 1 0 = ap (λ x. natAbs (x .re)) e in om
 -- a power of i is not 0
 pub i^-not-zero : (k : ℕ) → i^ k ≡ 𝟘 → ⊥
 i^-not-zero k e = one-not-zero (sym (i^-unit k) ∙ ap (λ x. i^ (3 * k) ⊗ x) e ∙ ⊗-𝟘 (i^ (3 * k)))
+
+-- the first of the four powers of i that a number is
+powerIn : G → ℕ
+powerIn z = firstFrom (λ k. eqG z (i^ k)) 4 0
+
+-- of i^k, with k from 0 to 3, that is k
+power-in : (k : ℕ) → k < 4 → powerIn (i^ k) ≡ k
+unfolding powerIn firstFrom eqG eqℤ i^ i⁺ 𝟙 _⊗_
+power-in zero h = refl
+power-in (suc zero) h = refl
+power-in (suc (suc zero)) h = refl
+power-in (suc (suc (suc zero))) h = refl
+power-in (suc (suc (suc (suc k)))) h = absurd (omega arith)
+
+-- so a number is one power of i at most
+pub i^-known : (j k : ℕ) → j < 4 → k < 4 → i^ j ≡ i^ k → j ≡ k
+i^-known j k hj hk e = sym (power-in j hj) ∙ ap powerIn e ∙ power-in k hk
+
+-- and still is beside another
+pub i^-known-beside : (a j k : ℕ) → j < 4 → k < 4 → i^ j ⊗ i^ a ≡ i^ k ⊗ i^ a → j ≡ k
+i^-known-beside a j k hj hk e = i^-known j k hj hk (sym (alone j) ∙ ap (λ x. i^ (3 * a) ⊗ x) e ∙ alone k)
+  where
+    alone : (j : ℕ) → i^ (3 * a) ⊗ (i^ j ⊗ i^ a) ≡ i^ j
+    alone j = ap (λ x. i^ (3 * a) ⊗ x) (⊗-comm (i^ j) (i^ a)) ∙ sym (⊗-assoc (i^ (3 * a)) (i^ a) (i^ j)) ∙ ap (λ x. x ⊗ i^ j) (i^-unit a) ∙ 𝟙-⊗ (i^ j)
 
 -- the conjugate of a power of i is its inverse
 pub conj-i^ : (k : ℕ) → conj (i^ k) ≡ i^ (3 * k)

@@ -8,13 +8,14 @@ use native.Mathlib.Omega.{arith}
 use native.Mathlib.Nat.{mod-eq-of-lt, zero-add, add-zero}
 use borrow.Author.Tests.{eq-eqb}
 use lib.Dec.{eqb}
+use lib.Pow.{pow-pos}
 use Rattle.letters.specs.Gauss.{G, 𝟘, 𝟙, _⊕_, _⊗_, conj, i^}
 use Rattle.letters.specs.Sums.{Σ, Π, total}
 use Rattle.letters.specs.Matrices.{Letters, bit, matrix, product, adjoint}
 use Rattle.letters.specs.Single.{letterOf, powerOf, times, conjugated, converted, cell}
 use Rattle.letters.specs.Rows.{columnOf, rowPower}
-use Rattle.complex.proofs.FloatLaws.{eqb-sym}
-use Rattle.letters.proofs.GaussLaws.{𝟙-⊗, ⊗-𝟙, 𝟘-⊗, ⊗-𝟘, 𝟘-⊕, ⊕-𝟘, i^-zero, i^-mod, i^-not-zero}
+use Rattle.letters.proofs.TestLaws.{eqb-sym}
+use Rattle.letters.proofs.GaussLaws.{𝟙-⊗, ⊗-𝟙, 𝟘-⊗, ⊗-𝟘, 𝟘-⊕, ⊕-𝟘, i^-zero, i^-mod, i^-not-zero, i^-known-beside}
 use Rattle.letters.proofs.SumLaws.{Π-cong-below, Π-mul, Π-i^, conj-Π, total-zero}
 use Rattle.letters.proofs.BitLaws.{bit-lt, binary-lt, binary-bits, one-cell, tensor-product}
 use Rattle.letters.proofs.TableLaws.{Closed, Converts, times-right, conjugated-right, converted-right}
@@ -164,3 +165,10 @@ row-entry M C n f hf r =
 -- the entry at the column is not zero
 pub row-not-zero : (M : Letters) → Closed M → (n : ℕ) (f : ℕ → ℕ) → ((s : ℕ) → s < n → f s < 4) → (r : ℕ) → matrix M n f r (columnOf M n f r) ≡ 𝟘 → ⊥
 row-not-zero M C n f hf r e = i^-not-zero (rowPower M n f r) (sym (row-entry M C n f hf r) ∙ e)
+
+-- the matrix leaves one power of i, 0 to 3, in front of it
+pub one-power : (M : Letters) → Closed M → (n : ℕ) (f : ℕ → ℕ) → ((s : ℕ) → s < n → f s < 4) → (j k : ℕ) → j < 4 → k < 4
+    → ((r c : ℕ) → r < 2 ^ n → c < 2 ^ n → i^ j ⊗ matrix M n f r c ≡ i^ k ⊗ matrix M n f r c) → j ≡ k
+one-power M C n f hf j k hj hk e =
+    let h = e 0 (columnOf M n f 0) (pow-pos n) (columnOf-lt M n f 0) in
+    i^-known-beside (rowPower M n f 0) j k hj hk (rw (row-entry M C n f hf 0) at h)

@@ -6,6 +6,8 @@ use mathlib.Core.Logic.{⊎-elim}
 use Prim.Native.Nat.{ℕ, zero, suc, _+_, _<_, _≤_}
 use native.Mathlib.Nat.{eq-or-lt-of-le}
 use native.Mathlib.Omega.{arith}
+use lib.Dec.{eqb}
+use borrow.Author.Tests.{eq-eqb, eqb-true}
 use Rattle.letters.specs.Tests.{every, firstFrom}
 
 pub and-true : {a b : Bool} → a ≡ true → b ≡ true → (a && b) ≡ true
@@ -31,6 +33,13 @@ pub bool-ext : (a b : Bool) → (a ≡ true → b ≡ true) → (b ≡ true → 
 bool-ext true b f g = sym (f refl)
 bool-ext false true f g = g refl
 bool-ext false false f g = refl
+
+-- equality of numbers, turned round
+pub eqb-sym : (a b : ℕ) → eqb a b ≡ eqb b a
+eqb-sym a b = bool-ext (eqb a b) (eqb b a) (turned a b) (turned b a)
+  where
+    turned : (a b : ℕ) → eqb a b ≡ true → eqb b a ≡ true
+    turned a b e = eq-eqb b a (sym (eqb-true a b e))
 
 -- ---- every
 

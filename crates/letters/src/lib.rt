@@ -1,5 +1,5 @@
 // The letters of one site: 0 identity, 1 X, 2 Y (iY in a decoherence product), 3 Z.
-// A factor is a power of i, 0 to 3; the modules answer it as the Rust does.
+// A factor is a power of i, 0 to 3.
 ghost use mathlib.Core.Path.{_≡_};
 ghost use Rattle.letters.specs.Matrices.{lettersOf};
 ghost use Rattle.letters.specs.Answers.{other, saidLetter, multiplyLetters, conjugateLetter, convertLetter};
@@ -21,18 +21,6 @@ pub enum Kind {
 // A letter and its power of i.
 pub enum LetterAnswer {
     Letter(u8, u8),
-    Refused(Refusal),
-}
-
-// A letter and its factor.
-pub enum ComplexLetter {
-    Letter(u8, complex::Complex),
-    Refused(Refusal),
-}
-
-// A letter and its factor, 1 or -1.
-pub enum SignedLetter {
-    Letter(u8, f64),
     Refused(Refusal),
 }
 

@@ -5,31 +5,31 @@ use Prim.Native.Nat.{ℕ, _*_, _/_, _%_, _^_}
 use mathlib.Core.Bool.{true, false}
 use mathlib.Core.List.{List, [], _∷_, map}
 use lib.IntN.{ℤ, pos}
-use lib.Ieee.{Float, binary64, ofInt}
+use lib.Ieee.{binary64, ofInt}
 use Rattle.refusal.specs.Refusals.{Said, gives, refuses}
 use Rattle.complex.specs.Complex.{sumOf}
 use Rattle.complex.specs.declared.Complex.{Complex}
 use Rattle.letters.specs.Gauss.{G, 𝟘, 𝟙, _⊗_}
 use Rattle.letters.specs.Sums.{Σ}
-use Rattle.letters.specs.Matrices.{pauli, decoherence, lettersOf, matrix, adjoint}
+use Rattle.letters.specs.Matrices.{decoherence, lettersOf, matrix, adjoint}
 use Rattle.letters.specs.Matrices as two-by-two
-use Rattle.letters.specs.Answers.{other, inFloats, multiplyLetters, asComplex, asSign}
+use Rattle.letters.specs.Answers.{other, multiplyLetters}
 use Rattle.letters.specs.declared.Kind.{Kind}
-use Rattle.letters.specs.declared.Kind.the-variants.{Pauli, Decoherence}
+use Rattle.letters.specs.declared.Kind.the-variants.{Decoherence}
 use Rattle.items.specs.Record.{letterAt}
 use Rattle.merging.specs.SiteAnswers.{setAnswer}
 use Rattle.merging.specs.ProductAnswers.{multiplyAnswer}
 use Rattle.phases.specs.Answers.{conjugateAnswer, convertAnswer}
 use Rattle.row_entries.specs.Answers.{rowAnswer}
 use Rattle.ordering.specs.Orders.{Order, compareAnswer}
-use Rattle.products.specs.Kinds.{withFactor, withSign}
+use Rattle.products.specs.Kinds.{asComplex}
 use Rattle.items.specs.declared.Items.{Items}
 use Rattle.master_equation.specs.Equation.{𝟚, commutator, dissipator}
 use Rattle.master_equation.specs.Numbers.{halves}
 use Rattle.master_equation.specs.Contributions.{operatorTerms, commutatorTerms, noiseTerms}
+use Rattle.rows.specs.Floats.{inFloats}
 use Rattle.rows.specs.Placing.{rowIn}
 use Rattle.sorted_lists.specs.Sorting.{upTo}
-use Rattle.hamiltonians.specs.Reals.{complexOf}
 use Rattle.hamiltonians.specs.Reals as reals
 use Rattle.operator_rows.specs.OperatorRows.{hamiltonianCommutatorRow}
 use Rattle.noise_sets.specs.Pairs as pairs
@@ -56,9 +56,9 @@ pub data Input : Type 0 where
 -- ---- what they give
 
 pub data Outcome : Type 0 where
-  -- a letter, and a product, with its factor; and the entries of the matrix that they are to be, row by row
-  letter : Said (ℕ × Complex) → List G → Outcome
-  product : Said Unit × (Complex × Items) → List G → Outcome
+  -- a letter, and a product, with its power of i; and the entries of the matrix that they are to be, row by row
+  letter : Said (ℕ × ℕ) → List G → Outcome
+  product : Said Unit × (ℕ × Items) → List G → Outcome
   -- by the rules alone
   changed : Said Unit × Items → Outcome
   order : Said Order → Outcome
@@ -77,16 +77,6 @@ entriesOf d A = map (λ i. A (i / d) (i % d)) (upTo (d * d))
 abbrev pub matrixOf : Kind → Items → ℕ → ℕ → G
 matrixOf kind p = matrix (lettersOf kind) 2 (letterAt p)
 
--- a sign as a complex factor
-abbrev signed : Said (ℕ × Float) → Said (ℕ × Complex)
-signed (gives x) = gives (x .0, complexOf (x .1))
-signed (refuses k s) = refuses k s
-
--- `multiply` of `SinglePauliOperator` and of `SingleDecoherenceOperator`
-abbrev singleAnswer : Kind → ℕ → ℕ → Said (ℕ × Complex)
-singleAnswer Pauli l r = asComplex (multiplyLetters pauli l r)
-singleAnswer Decoherence l r = signed (asSign (multiplyLetters decoherence l r))
-
 -- the one entry of a product's row
 abbrev oneEntry : Said (ℕ × Complex) → Said (List (ℕ × Complex))
 oneEntry (gives e) = gives (e ∷ [])
@@ -98,17 +88,15 @@ alike (gives l) = gives (map (λ e. (e .0, sumOf (e .1) (f64 𝟘))) l)
 alike (refuses k s) = refuses k s
 
 unfoldable pub outcome : Input → Outcome
-outcome (multiplySingle kind l r) = letter (singleAnswer kind l r) (entriesOf 2 (two-by-two.product (lettersOf kind l) (lettersOf kind r)))
+outcome (multiplySingle kind l r) =
+    letter (multiplyLetters (lettersOf kind) l r) (entriesOf 2 (two-by-two.product (lettersOf kind l) (lettersOf kind r)))
 outcome (multiply kind p q) =
     product
-    (withFactor (multiplyAnswer (lettersOf kind) p q))
+    (multiplyAnswer (lettersOf kind) p q)
     (entriesOf 4 (λ r c. Σ 4 (λ m. matrixOf kind p r m ⊗ matrixOf kind q m c)))
 outcome (setPauli p s l) = changed (setAnswer p s l)
-outcome (hermitianConjugate p) =
-    let a = withSign (conjugateAnswer decoherence p) in
-    product (a .0, (complexOf (a .1 .0), a .1 .1)) (entriesOf 4 (adjoint (matrixOf Decoherence p)))
-outcome (convert kind p) =
-    product (withFactor (convertAnswer (lettersOf kind) (lettersOf (other kind)) p)) (entriesOf 4 (matrixOf kind p))
+outcome (hermitianConjugate p) = product (conjugateAnswer decoherence p) (entriesOf 4 (adjoint (matrixOf Decoherence p)))
+outcome (convert kind p) = product (convertAnswer (lettersOf kind) (lettersOf (other kind)) p) (entriesOf 4 (matrixOf kind p))
 outcome (cmp kind p q) = order (compareAnswer kind p q)
 outcome (productRow n r p) =
     row

@@ -1,10 +1,11 @@
--- The table of the cases that document 01 marks ●, line by line.
+-- The table of the cases that document 01 marks ●, line by line. The factor of a product, a conjugate or a conversion stands there as its power of i
+-- (document 02): i is 1, -1 is 2, -i is 3.
 use Prim.Native.Nat.{ℕ}
 use mathlib.Core.List.{List, [], _∷_, map}
 use lib.IntN.{pos}
 use lib.ListN.{length}
 use Rattle.refusal.specs.Refusals.{gives, done}
-use Rattle.letters.specs.Gauss.{G, 𝟘, 𝟙, −𝟙, i⁺, i⁻, _⊗_}
+use Rattle.letters.specs.Gauss.{G, 𝟘, 𝟙, −𝟙, i⁻, _⊗_, i^}
 use Rattle.letters.specs.Matrices.{lettersOf}
 use Rattle.letters.specs.declared.Kind.{Kind}
 use Rattle.letters.specs.declared.Kind.the-variants.{Pauli, Decoherence}
@@ -78,12 +79,12 @@ infixl 70 _·_
 abbrev _·_ : ℕ → G → G
 k · z = record { re = pos k; im = pos 0 } ⊗ z
 
--- a factor times a letter of a kind, and times a product of a kind
-abbrev letter : G → Kind → ℕ → Outcome
-letter z kind l = cases.letter (gives (l, f64 z)) (entriesOf 2 (λ x y. z ⊗ lettersOf kind l x y))
+-- i to a power times a letter of a kind, and times a product of a kind
+abbrev letter : ℕ → Kind → ℕ → Outcome
+letter k kind l = cases.letter (gives (l, k)) (entriesOf 2 (λ x y. i^ k ⊗ lettersOf kind l x y))
 
-abbrev product : G → Kind → Items → Outcome
-product z kind p = cases.product (done, (f64 z, p)) (entriesOf 4 (λ r c. z ⊗ matrixOf kind p r c))
+abbrev product : ℕ → Kind → Items → Outcome
+product k kind p = cases.product (done, (k, p)) (entriesOf 4 (λ r c. i^ k ⊗ matrixOf kind p r c))
 
 -- a product, and an order, by the rules
 abbrev changed : Items → Outcome
@@ -113,26 +114,26 @@ unfoldable pub table : List (Input × Outcome)
 table =
     -- pauli_product.rs
     -- X·Y = Z with factor i; Y·X = Z with factor -i: of letters, and of products on site 0
-    multiplySingle Pauli X Y ⟼ letter i⁺ Pauli Z
-    ∷ multiplySingle Pauli Y X ⟼ letter i⁻ Pauli Z
-    ∷ multiply Pauli X0 Y0 ⟼ product i⁺ Pauli Z0
-    ∷ multiply Pauli Y0 X0 ⟼ product i⁻ Pauli Z0
+    multiplySingle Pauli X Y ⟼ letter 1 Pauli Z
+    ∷ multiplySingle Pauli Y X ⟼ letter 3 Pauli Z
+    ∷ multiply Pauli X0 Y0 ⟼ product 1 Pauli Z0
+    ∷ multiply Pauli Y0 X0 ⟼ product 3 Pauli Z0
     -- `set_pauli` with Identity removes an occupied site and does nothing on a free one
     ∷ setPauli X0Z2 2 I ⟼ changed X0
     ∷ setPauli X0Z2 1 I ⟼ changed X0Z2
     -- decoherence_product.rs
     -- iY·iY = Identity, -1. X·iY = Z, -1
-    ∷ multiplySingle Decoherence iY iY ⟼ letter −𝟙 Decoherence I
-    ∷ multiplySingle Decoherence X iY ⟼ letter −𝟙 Decoherence Z
-    ∷ multiply Decoherence iY0 iY0 ⟼ product −𝟙 Decoherence empty
-    ∷ multiply Decoherence X0 iY0 ⟼ product −𝟙 Decoherence Z0
+    ∷ multiplySingle Decoherence iY iY ⟼ letter 2 Decoherence I
+    ∷ multiplySingle Decoherence X iY ⟼ letter 2 Decoherence Z
+    ∷ multiply Decoherence iY0 iY0 ⟼ product 2 Decoherence empty
+    ∷ multiply Decoherence X0 iY0 ⟼ product 2 Decoherence Z0
     -- `hermitian_conjugate` keeps the letters; its sign is -1 for an odd number of iY: 0iY gives -1, 0iY1iY gives +1
-    ∷ hermitianConjugate iY0 ⟼ product −𝟙 Decoherence iY0
-    ∷ hermitianConjugate iY0iY1 ⟼ product 𝟙 Decoherence iY0iY1
+    ∷ hermitianConjugate iY0 ⟼ product 2 Decoherence iY0
+    ∷ hermitianConjugate iY0iY1 ⟼ product 0 Decoherence iY0iY1
     -- 0iY converts to 0Y with factor i, and 0Y back with -i; 0iY1iY gives -1
-    ∷ convert Decoherence iY0 ⟼ product i⁺ Pauli Y0
-    ∷ convert Pauli Y0 ⟼ product i⁻ Decoherence iY0
-    ∷ convert Decoherence iY0iY1 ⟼ product −𝟙 Pauli Y0Y1
+    ∷ convert Decoherence iY0 ⟼ product 1 Pauli Y0
+    ∷ convert Pauli Y0 ⟼ product 3 Decoherence iY0
+    ∷ convert Decoherence iY0iY1 ⟼ product 2 Pauli Y0Y1
     -- `cmp`: 0Z1X is above 0X2X here, and below it as Pauli products
     ∷ cmp Decoherence Z0X1 X0X2 ⟼ above
     ∷ cmp Pauli Z0X1 X0X2 ⟼ below

@@ -14,8 +14,7 @@ use Rattle.letters.specs.Sums.{Σ}
 use Rattle.letters.specs.Matrices.{pauli, decoherence, lettersOf, matrix}
 use Rattle.letters.specs.Rows.{columnOf, rowPower}
 use Rattle.letters.specs.declared.Kind.{Kind}
-use Rattle.complex.proofs.FloatLaws.{eqb-sym}
-use Rattle.letters.proofs.TestLaws.{and-true, and-left, and-right, bool-ext}
+use Rattle.letters.proofs.TestLaws.{and-true, and-left, and-right, bool-ext, eqb-sym}
 use Rattle.letters.proofs.GaussLaws.{ring, ⊕-𝟘, 𝟘-⊕, 𝟙-⊗, 𝟘-⊗, ⊗-𝟘, conj-𝟘, conj-i^, i^-add, i^-mod}
 use Rattle.letters.proofs.SumLaws.{Σ-cong-below, Σ-zero}
 use Rattle.letters.proofs.TableLaws.{closed}

@@ -1,7 +1,6 @@
 -- The numbers of a row, for any arithmetic; and whole numbers, counted in halves.
 use mathlib.Core.Bool.{Bool}
 use Prim.Native.Nat.{ℕ}
-use Rattle.complex.specs.Complex.{isZero}
 use Rattle.letters.specs.Gauss.{G, 𝟘, −𝟙, _⊕_, _⊗_, i^, eqG}
 use Rattle.master_equation.specs.Equation.{𝟚}
 

@@ -1,4 +1,4 @@
-pub mod SignLaws
+pub mod PowerLaws
 pub mod ProductTheorems
 pub mod ProductCases
 pub mod RowCases

@@ -8,18 +8,16 @@ use Rattle.merging.specs.SiteAnswers.{saidGot}
 use Rattle.row_entries.specs.Answers.{saidRow}
 use Rattle.items.specs.Answers.{told, toldPower}
 use Rattle.ordering.specs.Orders.{Order, less, equal, greater, saidOrder}
-use Rattle.products.specs.Kinds.{toldPauli, toldPauliFactor, toldPauliSign, toldDecoherence, toldFactor, toldSign, saidProductRow}
+use Rattle.products.specs.Kinds.{toldPauli, toldPauliPower, toldDecoherence, toldDecoherencePower, saidProductRow}
 use Rattle.items.specs.declared.ItemsAnswer.{ItemsAnswer}
 use Rattle.items.specs.declared.ItemsWithPower.{ItemsWithPower}
 use Rattle.items.specs.declared.Got.{Got}
 use Rattle.row_entries.specs.declared.ItemsRow.{ItemsRow}
 use Rattle.ordering.specs.declared.Compared.{Compared}
 use Rattle.products.specs.declared.pauli_product.PauliAnswer.{PauliAnswer}
-use Rattle.products.specs.declared.pauli_product.PauliWithFactor.{PauliWithFactor}
-use Rattle.products.specs.declared.pauli_product.PauliWithSign.{PauliWithSign}
+use Rattle.products.specs.declared.pauli_product.PauliWithPower.{PauliWithPower}
 use Rattle.products.specs.declared.decoherence_product.DecoherenceAnswer.{DecoherenceAnswer}
-use Rattle.products.specs.declared.decoherence_product.DecoherenceWithFactor.{DecoherenceWithFactor}
-use Rattle.products.specs.declared.decoherence_product.DecoherenceWithSign.{DecoherenceWithSign}
+use Rattle.products.specs.declared.decoherence_product.DecoherenceWithPower.{DecoherenceWithPower}
 use Rattle.products.specs.declared.decoherence_product.ProductRow.{ProductRow}
 
 -- ---- enums
@@ -87,27 +85,17 @@ told-pauli-known a b e =
     let o = outcome-known (a .outcome) (b .outcome) (ap (λ z. z .0) e) in
     λ i. record { outcome = o i; product = record { items = e i .1 } }
 
-pub told-pauli-factor-known : (a b : PauliWithFactor) → toldPauliFactor a ≡ toldPauliFactor b → a ≡ b
-told-pauli-factor-known a b e =
+pub told-pauli-power-known : (a b : PauliWithPower) → toldPauliPower a ≡ toldPauliPower b → a ≡ b
+told-pauli-power-known a b e =
     let o = outcome-known (a .outcome) (b .outcome) (ap (λ z. z .0) e) in
-    λ i. record { outcome = o i; factor = e i .1 .0; product = record { items = e i .1 .1 } }
-
-pub told-pauli-sign-known : (a b : PauliWithSign) → toldPauliSign a ≡ toldPauliSign b → a ≡ b
-told-pauli-sign-known a b e =
-    let o = outcome-known (a .outcome) (b .outcome) (ap (λ z. z .0) e) in
-    λ i. record { outcome = o i; factor = e i .1 .0; product = record { items = e i .1 .1 } }
+    λ i. record { outcome = o i; power = e i .1 .0; product = record { items = e i .1 .1 } }
 
 pub told-decoherence-known : (a b : DecoherenceAnswer) → toldDecoherence a ≡ toldDecoherence b → a ≡ b
 told-decoherence-known a b e =
     let o = outcome-known (a .outcome) (b .outcome) (ap (λ z. z .0) e) in
     λ i. record { outcome = o i; product = record { items = e i .1 } }
 
-pub told-factor-known : (a b : DecoherenceWithFactor) → toldFactor a ≡ toldFactor b → a ≡ b
-told-factor-known a b e =
+pub told-decoherence-power-known : (a b : DecoherenceWithPower) → toldDecoherencePower a ≡ toldDecoherencePower b → a ≡ b
+told-decoherence-power-known a b e =
     let o = outcome-known (a .outcome) (b .outcome) (ap (λ z. z .0) e) in
-    λ i. record { outcome = o i; factor = e i .1 .0; product = record { items = e i .1 .1 } }
-
-pub told-sign-known : (a b : DecoherenceWithSign) → toldSign a ≡ toldSign b → a ≡ b
-told-sign-known a b e =
-    let o = outcome-known (a .outcome) (b .outcome) (ap (λ z. z .0) e) in
-    λ i. record { outcome = o i; factor = e i .1 .0; product = record { items = e i .1 .1 } }
+    λ i. record { outcome = o i; power = e i .1 .0; product = record { items = e i .1 .1 } }

@@ -1,7 +1,6 @@
 // Products of decoherence letters: identity, X, iY and Z.
 ghost use mathlib.Core.Path.{_≡_};
 ghost use Rattle.letters.specs.Matrices.{pauli, decoherence};
-ghost use Rattle.letters.specs.Answers.{asComplex};
 ghost use Rattle.letters.specs.declared.Kind.the-variants.{Decoherence};
 ghost use Rattle.items.specs.Lists.{at};
 ghost use Rattle.items.specs.Record.{emptyProduct};
@@ -11,9 +10,9 @@ ghost use Rattle.merging.specs.Targets.{remapAnswer};
 ghost use Rattle.phases.specs.Answers.{conjugateAnswer, convertAnswer};
 ghost use Rattle.row_entries.specs.Answers.{rowAnswer};
 ghost use Rattle.ordering.specs.Orders.{saidOrder, compareAnswer};
-ghost use Rattle.products.specs.Kinds.{toldDecoherence, toldFactor, toldSign, toldPauliFactor, saidProductRow, withFactor, withSign};
+ghost use Rattle.products.specs.Kinds.{toldDecoherence, toldDecoherencePower, toldPauliPower, saidProductRow, asComplex};
 use crate::pauli_product::PauliProduct;
-use crate::pauli_product::PauliWithFactor;
+use crate::pauli_product::PauliWithPower;
 use complex::Complex;
 use items::Got;
 use items::Items;
@@ -34,15 +33,10 @@ pub struct DecoherenceAnswer {
     pub product: DecoherenceProduct,
 }
 
-pub struct DecoherenceWithFactor {
+// A product and the power of i in front of it.
+pub struct DecoherenceWithPower {
     pub outcome: Outcome,
-    pub factor: Complex,
-    pub product: DecoherenceProduct,
-}
-
-pub struct DecoherenceWithSign {
-    pub outcome: Outcome,
-    pub factor: f64,
+    pub power: u8,
     pub product: DecoherenceProduct,
 }
 
@@ -83,19 +77,18 @@ impl DecoherenceProduct {
         }
     }
 
-    // The matrix product of two products: a product and its factor.
-    pub fn multiply(self, right: DecoherenceProduct) -> DecoherenceWithFactor
-        ensures { λ r. ⌜ toldFactor r ≡ withFactor (multiplyAnswer decoherence (self .items) (right .items)) ⌝ }
+    // The matrix product of two products: a power of i and a product.
+    pub fn multiply(self, right: DecoherenceProduct) -> DecoherenceWithPower
+        ensures { λ r. ⌜ toldDecoherencePower r ≡ multiplyAnswer decoherence (self .items) (right .items) ⌝ }
     {
         let p = self.items;
         let q = right.items;
         let a = merging::multiply::multiply(Kind::Decoherence, p, q);
         let outcome = a.outcome;
         let items = a.items;
-        let factor = complex::unit_of_i(a.power);
-        DecoherenceWithFactor {
+        DecoherenceWithPower {
             outcome: outcome,
-            factor: factor,
+            power: a.power,
             product: DecoherenceProduct { items: items },
         }
     }
@@ -138,50 +131,47 @@ impl DecoherenceProduct {
         ordering::compare(Kind::Decoherence, p, q)
     }
 
-    // The conjugate transpose: the product itself, with the factor -1 for an odd number of iY.
-    pub fn hermitian_conjugate(self) -> DecoherenceWithSign
-        ensures { λ r. ⌜ toldSign r ≡ withSign (conjugateAnswer decoherence (self .items)) ⌝ }
+    // The conjugate transpose: the product itself, with the power 2 for an odd number of iY.
+    pub fn hermitian_conjugate(self) -> DecoherenceWithPower
+        ensures { λ r. ⌜ toldDecoherencePower r ≡ conjugateAnswer decoherence (self .items) ⌝ }
     {
         let p = self.items;
         let a = phases::conjugate(Kind::Decoherence, p);
         let outcome = a.outcome;
         let items = a.items;
-        let factor = complex::unit_of_i(a.power);
-        DecoherenceWithSign {
+        DecoherenceWithPower {
             outcome: outcome,
-            factor: factor.re,
+            power: a.power,
             product: DecoherenceProduct { items: items },
         }
     }
 
     // A decoherence product in Pauli letters.
-    pub fn decoherence_to_spin(self) -> PauliWithFactor
-        ensures { λ r. ⌜ toldPauliFactor r ≡ withFactor (convertAnswer decoherence pauli (self .items)) ⌝ }
+    pub fn decoherence_to_spin(self) -> PauliWithPower
+        ensures { λ r. ⌜ toldPauliPower r ≡ convertAnswer decoherence pauli (self .items) ⌝ }
     {
         let p = self.items;
         let a = phases::convert(Kind::Decoherence, p);
         let outcome = a.outcome;
         let items = a.items;
-        let factor = complex::unit_of_i(a.power);
-        PauliWithFactor {
+        PauliWithPower {
             outcome: outcome,
-            factor: factor,
+            power: a.power,
             product: PauliProduct { items: items },
         }
     }
 
     // A Pauli product in decoherence letters.
-    pub fn spin_to_decoherence(product: PauliProduct) -> DecoherenceWithFactor
-        ensures { λ r. ⌜ toldFactor r ≡ withFactor (convertAnswer pauli decoherence (product .items)) ⌝ }
+    pub fn spin_to_decoherence(product: PauliProduct) -> DecoherenceWithPower
+        ensures { λ r. ⌜ toldDecoherencePower r ≡ convertAnswer pauli decoherence (product .items) ⌝ }
     {
         let p = product.items;
         let a = phases::convert(Kind::Pauli, p);
         let outcome = a.outcome;
         let items = a.items;
-        let factor = complex::unit_of_i(a.power);
-        DecoherenceWithFactor {
+        DecoherenceWithPower {
             outcome: outcome,
-            factor: factor,
+            power: a.power,
             product: DecoherenceProduct { items: items },
         }
     }

@@ -9,8 +9,7 @@ ghost use Rattle.merging.specs.ProductAnswers.{multiplyAnswer, concatenateAnswe
 ghost use Rattle.merging.specs.Targets.{remapAnswer};
 ghost use Rattle.phases.specs.Answers.{conjugateAnswer};
 ghost use Rattle.ordering.specs.Orders.{saidOrder, compareAnswer};
-ghost use Rattle.products.specs.Kinds.{toldPauli, toldPauliFactor, toldPauliSign, withFactor, withSign};
-use complex::Complex;
+ghost use Rattle.products.specs.Kinds.{toldPauli, toldPauliPower};
 use items::Got;
 use items::Items;
 use items::SITE_COUNT;
@@ -28,15 +27,10 @@ pub struct PauliAnswer {
     pub product: PauliProduct,
 }
 
-pub struct PauliWithFactor {
+// A product and the power of i in front of it.
+pub struct PauliWithPower {
     pub outcome: Outcome,
-    pub factor: Complex,
-    pub product: PauliProduct,
-}
-
-pub struct PauliWithSign {
-    pub outcome: Outcome,
-    pub factor: f64,
+    pub power: u8,
     pub product: PauliProduct,
 }
 
@@ -71,19 +65,18 @@ impl PauliProduct {
         }
     }
 
-    // The matrix product of two products: a product and its factor.
-    pub fn multiply(self, right: PauliProduct) -> PauliWithFactor
-        ensures { λ r. ⌜ toldPauliFactor r ≡ withFactor (multiplyAnswer pauli (self .items) (right .items)) ⌝ }
+    // The matrix product of two products: a power of i and a product.
+    pub fn multiply(self, right: PauliProduct) -> PauliWithPower
+        ensures { λ r. ⌜ toldPauliPower r ≡ multiplyAnswer pauli (self .items) (right .items) ⌝ }
     {
         let p = self.items;
         let q = right.items;
         let a = merging::multiply::multiply(Kind::Pauli, p, q);
         let outcome = a.outcome;
         let items = a.items;
-        let factor = complex::unit_of_i(a.power);
-        PauliWithFactor {
+        PauliWithPower {
             outcome: outcome,
-            factor: factor,
+            power: a.power,
             product: PauliProduct { items: items },
         }
     }
@@ -126,18 +119,17 @@ impl PauliProduct {
         ordering::compare(Kind::Pauli, p, q)
     }
 
-    // The conjugate transpose: the product itself, with the factor 1.
-    pub fn hermitian_conjugate(self) -> PauliWithSign
-        ensures { λ r. ⌜ toldPauliSign r ≡ withSign (conjugateAnswer pauli (self .items)) ⌝ }
+    // The conjugate transpose: the product itself, with the power 0.
+    pub fn hermitian_conjugate(self) -> PauliWithPower
+        ensures { λ r. ⌜ toldPauliPower r ≡ conjugateAnswer pauli (self .items) ⌝ }
     {
         let p = self.items;
         let a = phases::conjugate(Kind::Pauli, p);
         let outcome = a.outcome;
         let items = a.items;
-        let factor = complex::unit_of_i(a.power);
-        PauliWithSign {
+        PauliWithPower {
             outcome: outcome,
-            factor: factor.re,
+            power: a.power,
             product: PauliProduct { items: items },
         }
     }

@@ -6,7 +6,8 @@ use crate::records::targets;
 use crate::report::accepted;
 use crate::report::refused;
 use crate::report::told;
-use crate::report::told_anew;
+use crate::report::told_power;
+use crate::report::told_power_anew;
 use observations::records::same_items;
 use spins::Compared;
 use spins::DecoherenceAnswer;
@@ -64,11 +65,11 @@ fn multiply(kind: u64, p: Items, q: Items) {
     if kind == 0 {
         let r = pauli(p).multiply(pauli(q));
         let outcome = r.outcome;
-        told(outcome, same_items(p, r.product.items));
+        told_power(outcome, r.power, same_items(p, r.product.items));
     } else {
         let r = decoherence(p).multiply(decoherence(q));
         let outcome = r.outcome;
-        told(outcome, same_items(p, r.product.items));
+        told_power(outcome, r.power, same_items(p, r.product.items));
     }
 }
 
@@ -92,11 +93,11 @@ fn hermitian_conjugate(kind: u64, p: Items) {
     if kind == 0 {
         let r = pauli(p).hermitian_conjugate();
         let outcome = r.outcome;
-        told(outcome, same_items(p, r.product.items));
+        told_power(outcome, r.power, same_items(p, r.product.items));
     } else {
         let r = decoherence(p).hermitian_conjugate();
         let outcome = r.outcome;
-        told(outcome, same_items(p, r.product.items));
+        told_power(outcome, r.power, same_items(p, r.product.items));
     }
 }
 
@@ -106,12 +107,12 @@ fn convert(kind: u64, p: Items) {
         let r = DecoherenceProduct::spin_to_decoherence(pauli(p));
         let outcome = r.outcome;
         let none = DecoherenceProduct::new();
-        told_anew(outcome, same_items(none.items, r.product.items));
+        told_power_anew(outcome, r.power, same_items(none.items, r.product.items));
     } else {
         let r = decoherence(p).decoherence_to_spin();
         let outcome = r.outcome;
         let none = PauliProduct::new();
-        told_anew(outcome, same_items(none.items, r.product.items));
+        told_power_anew(outcome, r.power, same_items(none.items, r.product.items));
     }
 }
 

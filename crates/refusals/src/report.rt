@@ -13,14 +13,32 @@ pub(crate) fn refused(why: Refusal) {
     io::write_all(1, b"\n");
 }
 
-// A refusal, and whether the state came back as it was.
-pub(crate) fn kept(why: Refusal, same: bool) {
-    print_refusal(why);
+fn print_state(same: bool) {
     if same {
         io::write_all(1, b"; state as before\n");
     } else {
         io::write_all(1, b"; state changed\n");
     }
+}
+
+// Of an entry that answers another type than it takes.
+fn print_anew(empty: bool) {
+    if empty {
+        io::write_all(1, b"; empty beside it\n");
+    } else {
+        io::write_all(1, b"; not empty beside it\n");
+    }
+}
+
+fn print_power(power: u8) {
+    io::write_all(1, b"; power ");
+    io::print_decimal(1, power as u64);
+}
+
+// A refusal, and whether the state came back as it was.
+pub(crate) fn kept(why: Refusal, same: bool) {
+    print_refusal(why);
+    print_state(same);
 }
 
 // An outcome, and whether the state came back as it was.
@@ -31,17 +49,37 @@ pub(crate) fn told(outcome: Outcome, same: bool) {
     }
 }
 
+// The same with the power of i beside a refusal.
+pub(crate) fn told_power(outcome: Outcome, power: u8, same: bool) {
+    match outcome {
+        Outcome::Done => accepted(),
+        Outcome::Refused(why) => {
+            print_refusal(why);
+            print_power(power);
+            print_state(same);
+        }
+    }
+}
+
 // An outcome of an entry that answers another type, and whether the empty record stands beside its refusal.
 pub(crate) fn told_anew(outcome: Outcome, empty: bool) {
     match outcome {
         Outcome::Done => accepted(),
         Outcome::Refused(why) => {
             print_refusal(why);
-            if empty {
-                io::write_all(1, b"; empty beside it\n");
-            } else {
-                io::write_all(1, b"; not empty beside it\n");
-            }
+            print_anew(empty);
+        }
+    }
+}
+
+// The same with the power of i beside a refusal.
+pub(crate) fn told_power_anew(outcome: Outcome, power: u8, empty: bool) {
+    match outcome {
+        Outcome::Done => accepted(),
+        Outcome::Refused(why) => {
+            print_refusal(why);
+            print_power(power);
+            print_anew(empty);
         }
     }
 }

@@ -2,22 +2,14 @@
 use crate::records::small;
 use crate::report::accepted;
 use crate::report::refused;
-use spins::ComplexLetter;
-use spins::SignedLetter;
+use spins::LetterAnswer;
 use spins::single_decoherence_operator;
 use spins::single_pauli_operator;
 
-fn complex_letter(a: ComplexLetter) {
+fn told(a: LetterAnswer) {
     match a {
-        ComplexLetter::Letter(_, _) => accepted(),
-        ComplexLetter::Refused(why) => refused(why),
-    }
-}
-
-fn signed_letter(a: SignedLetter) {
-    match a {
-        SignedLetter::Letter(_, _) => accepted(),
-        SignedLetter::Refused(why) => refused(why),
+        LetterAnswer::Letter(_, _) => accepted(),
+        LetterAnswer::Refused(why) => refused(why),
     }
 }
 
@@ -25,10 +17,10 @@ pub(crate) fn call(a: [u64; 26]) {
     let x = small(a[1]);
     let y = small(a[2]);
     match a[0] {
-        0 => complex_letter(single_pauli_operator::multiply(x, y)),
-        1 => signed_letter(single_decoherence_operator::multiply(x, y)),
-        2 => signed_letter(single_decoherence_operator::hermitian_conjugate(x)),
-        3 => complex_letter(single_decoherence_operator::decoherence_to_spin(x)),
-        _ => complex_letter(single_decoherence_operator::spin_to_decoherence(x)),
+        0 => told(single_pauli_operator::multiply(x, y)),
+        1 => told(single_decoherence_operator::multiply(x, y)),
+        2 => told(single_decoherence_operator::hermitian_conjugate(x)),
+        3 => told(single_decoherence_operator::decoherence_to_spin(x)),
+        _ => told(single_decoherence_operator::spin_to_decoherence(x)),
     }
 }

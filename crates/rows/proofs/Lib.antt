@@ -6,5 +6,5 @@ pub mod DeliveryLaws
 pub mod OpenLaws
 pub mod RowCases
 pub mod CallLaws
-pub mod HalfUnitLaws
+pub mod UnitLaws
 pub mod DeliveryReading

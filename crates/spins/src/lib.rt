@@ -9,9 +9,8 @@ pub use refusal::Refusal;
 pub use complex::Complex;
 
 // The letters of one site.
-pub use letters::ComplexLetter;
 pub use letters::HIGHEST_LETTER;
-pub use letters::SignedLetter;
+pub use letters::LetterAnswer;
 pub use letters::single_decoherence_operator;
 pub use letters::single_pauli_operator;
 
@@ -25,13 +24,11 @@ pub use items::Site;
 pub use ordering::Compared;
 pub use products::decoherence_product::DecoherenceAnswer;
 pub use products::decoherence_product::DecoherenceProduct;
-pub use products::decoherence_product::DecoherenceWithFactor;
-pub use products::decoherence_product::DecoherenceWithSign;
+pub use products::decoherence_product::DecoherenceWithPower;
 pub use products::decoherence_product::ProductRow;
 pub use products::pauli_product::PauliAnswer;
 pub use products::pauli_product::PauliProduct;
-pub use products::pauli_product::PauliWithFactor;
-pub use products::pauli_product::PauliWithSign;
+pub use products::pauli_product::PauliWithPower;
 pub use row_entries::MOST_SPINS;
 
 // Sets of terms: operators and Hamiltonians.

@@ -3,8 +3,8 @@
 use mathlib.Core.Path.{ap, sym, _∙_}
 use borrow.Author.Needs.{needs}
 use Rattle.letters.specs.Matrices.{lettersOf}
-use Rattle.letters.specs.Answers.{asComplex}
 use Rattle.row_entries.specs.Answers.{saidRow}
+use Rattle.products.specs.Kinds.{asComplex}
 use Rattle.products.proofs.decoherence_product.DecoherenceProduct.sparse_matrix_entries_on_row.Statement.{statement}
 use Rattle.products.proofs.decoherence_product.DecoherenceProduct.sparse_matrix_entries_on_row.Tie as tie
 
