@@ -1,6 +1,6 @@
 -- `phases::convert`: the letters stay, so the record of the answer is the product given; the refusal has the empty product.
 -- Assumes nothing.
-use mathlib.Core.Path.{sym, _∙_}
+use mathlib.Core.Path.{refl, sym, _∙_}
 use borrow.Author.Tests.{not-true, not-false}
 use borrow.Author.Needs.{needs}
 use Rattle.phases.specs.Answers.{convertAnswer}
@@ -17,7 +17,7 @@ empty-requires c κs = search needs
 
 returns : tie.Need-returns
 unfolding convertAnswer
-returns c = let bad = sym (c .before .before .is-valid .ensures) ∙ not-true _ (c .before .if1 .taken) in rw (bad, c .empty .ensures)
+returns c = let bad = sym (c .before .before .is-valid .ensures) ∙ not-true _ (c .before .if1 .taken) in rw (bad, c .empty .ensures) refl
 
 total-power-requires : tie.Need-total-power-requires
 total-power-requires c κs = sym (c .before .is-valid .ensures) ∙ not-false _ (c .if1 .left)

@@ -1,6 +1,6 @@
 -- `multiply::multiply`: each return goes with the tests that led to it; the rest is `merged`.
 -- Assumes nothing.
-use mathlib.Core.Path.{_≡_, sym, _∙_}
+use mathlib.Core.Path.{_≡_, refl, sym, _∙_}
 use mathlib.Core.Bool.{true}
 use borrow.Author.Needs.{needs}
 use borrow.Author.Tests.{not-true, not-false}
@@ -31,7 +31,7 @@ returns-2 : tie.Need-returns-2
 unfolding multiplyAnswer
 returns-2 c =
     let b = c .before .before in
-    rw (sym (b .before .is-valid .ensures) ∙ not-false _ (b .if1 .left), sym (c .before .is-valid2 .ensures) ∙ not-true _ (c .if2 .taken))
+    rw (sym (b .before .is-valid .ensures) ∙ not-false _ (b .if1 .left), sym (c .before .is-valid2 .ensures) ∙ not-true _ (c .if2 .taken)) refl
 
 merged-requires : tie.Need-merged-requires
 merged-requires c κs = (valid-p c, valid-q c)
