@@ -41,8 +41,9 @@ def one_site(kind):
 
 
 def whole_products(kind):
-    q = two(3, 1, 5, 2)
+    q, far = two(3, 1, 5, 2), two(3, 1, 31, 2)
     on_product(kind, 12, "multiply", [("well-formed", [X3, X3], None)] + SIDES, POWER_BEFORE)
+    on_product(kind, 12, "multiply", [("sites 3 and 31 left of 3Y", [far, on(3, 2)], 0), ("sites 3 and 31 right of 3Y", [on(3, 2), far], 0)], POWER_BEFORE)
     on_product(kind, 15, "cmp", [("well-formed", [X3, X3], None)] + SIDES, "")
     on_product(kind, 16, "hermitian_conjugate", ALONE, POWER_BEFORE)
     for name, numbers, answer in ALONE:

@@ -35,9 +35,15 @@ pub(crate) fn product_told(s: &[u8], at: usize, outcome: Outcome, items: Items) 
     settled(s, p.next, worse(refused_if(is_refused(outcome)), v))
 }
 
-// Whether a power of i, 0 to 3, is the Rust's number.
+// Whether i to a power is the Rust's number, in both parts; a power above 3 is none.
 pub(crate) fn is_power(power: u8, told: Complex) -> bool {
-    power <= 3 && same_number(false, complex::unit_of_i(power), told)
+    match power {
+        0 => same_number(false, told, Complex { re: 1.0, im: 0.0 }),
+        1 => same_number(false, told, Complex { re: 0.0, im: 1.0 }),
+        2 => same_number(false, told, Complex { re: -1.0, im: 0.0 }),
+        3 => same_number(false, told, Complex { re: 0.0, im: -1.0 }),
+        _ => false,
+    }
 }
 
 // A product and its power of i, beside the Rust's product and number.

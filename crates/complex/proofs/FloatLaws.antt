@@ -30,9 +30,9 @@ module _ (k : ℕ) where
   power-pos : (d : ℤ) → 0 < 1 * 2 ^ k * down d
   power-pos d = mul-pos (mul-pos (omega arith) (pow-pos k)) (down-pos d)
 
-  -- the size of a positive number, beside 2 ^ k
-  positive : (m : ℕ) (d : ℤ) → (ltb (m * up d * 1) (1 * 2 ^ k * down d) || (eqb (m * up d * 1) (1 * 2 ^ k * down d) && true)) ≡ leb (m * up d * 1) (1 * 2 ^ k * down d)
-  positive m d =
+  -- m 2 ^ d ≤ 2 ^ k, as `le` computes it
+  at-most-split : (m : ℕ) (d : ℤ) → (ltb (m * up d * 1) (1 * 2 ^ k * down d) || (eqb (m * up d * 1) (1 * 2 ^ k * down d) && true)) ≡ leb (m * up d * 1) (1 * 2 ^ k * down d)
+  at-most-split m d =
       let x = m * up d * 1 in
       let y = 1 * 2 ^ k * down d in
       le-split x y (eqb x y) (eqb-true x y) (eqb-false x y)
@@ -43,7 +43,7 @@ module _ (k : ℕ) where
   above-power nan e = refl
   above-power (inf s) e = refl
   above-power (fin false m d) e =
-      rw (← mul-one (m * up d), ← one-mul (2 ^ k)) (sym (positive m d) ∙ e)
+      rw (← mul-one (m * up d), ← one-mul (2 ^ k)) (sym (at-most-split m d) ∙ e)
   above-power (fin true m d) e =
       let p = power-pos d in
       absurd (true≢false (rw (lt-ltb 0 (m * up d * 1 + 1 * 2 ^ k * down d) (omega arith)) at e))
@@ -56,7 +56,7 @@ module _ (k : ℕ) where
   between-powers (inf false) e = sym e
   between-powers (fin false m d) e =
       let p = power-pos d in
-      rw (lt-ltb 0 (1 * 2 ^ k * down d + m * up d * 1) (omega arith), ← mul-one (m * up d), ← one-mul (2 ^ k)) (sym e ∙ positive m d)
+      rw (lt-ltb 0 (1 * 2 ^ k * down d + m * up d * 1) (omega arith), ← mul-one (m * up d), ← one-mul (2 ^ k)) (sym e ∙ at-most-split m d)
   between-powers (fin true m d) e =
       let x = m * up d * 1 in
       let y = 1 * 2 ^ k * down d in

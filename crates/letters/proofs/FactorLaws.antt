@@ -1,5 +1,5 @@
 -- The powers of i that the single-site entries answer. An accepted answer says the matrices' product, conjugate or conversion; its number is 0 to 3, and
--- the matrices leave no other; of decoherence products and of conjugates it is 0 or 2: "Factors are +1 or -1 except in conversions". Assumes nothing.
+-- the matrices leave no other; where decoherence letters are multiplied or conjugated it is 0 or 2: "Factors are +1 or -1 except in conversions". Assumes nothing.
 use mathlib.Core.Path.{_≡_, refl, sym, ap, ap₂, _∙_}
 use mathlib.Core.Bool.{Bool, true, false, _||_, cond}
 use mathlib.Core.List.{[]}
@@ -11,15 +11,15 @@ use lib.ListN.{getD}
 use borrow.Author.Tests.{eqb-true, eq-eqb, ltb-false, le-ltb}
 use Rattle.refusal.specs.Refusals.{gives, refuses}
 use Rattle.letters.specs.Tests.{every}
-use Rattle.letters.specs.Gauss.{𝟘, _⊗_, i^}
+use Rattle.letters.specs.Gauss.{G, 𝟘, _⊗_, i^}
 use Rattle.letters.specs.Matrices.{Letters, decoherence, lettersOf, product, adjoint}
-use Rattle.letters.specs.Single.{letterOf, powerOf, times, conjugated, converted, cell}
+use Rattle.letters.specs.Single.{asLetter, letterOf, powerOf, times, conjugated, converted, cell}
 use Rattle.letters.specs.Answers.{other, decoded, multiplyLetters, conjugateLetter, convertLetter, highestLetter}
 use Rattle.letters.specs.declared.Kind.{Kind}
 use Rattle.letters.specs.declared.Kind.the-variants.{Pauli, Decoherence}
 use Rattle.letters.proofs.TestLaws.{every-at, neither}
-use Rattle.letters.proofs.GaussLaws.{i^-known-beside}
-use Rattle.letters.proofs.TableLaws.{Closed, closed, converts, times-right, conjugated-right, converted-right}
+use Rattle.letters.proofs.GaussLaws.{i^-same-beside}
+use Rattle.letters.proofs.TableLaws.{asLetter-right, closed, converts}
 use Rattle.letters.proofs.Codes.{codes, conjugateCodes, times-code, conjugated-code}
 
 -- ---- what an accepted answer says
@@ -36,85 +36,106 @@ given false e c k h =
     let g : _≡_ {A = ℕ × ℕ} (letterOf e, powerOf e) (c, k) = cc in
     record { passed = refl; letter = ap (λ x. x .0) g; power = ap (λ x. x .1) g }
 
--- of two letters up to 3
-record GivenOfTwo (l r e c k : ℕ) : Type 0 where
-  left : l < 4
-  right : r < 4
-  letter : letterOf e ≡ c
-  power : powerOf e ≡ k
+-- the answer (c, k) for a matrix: the matrix is i^k times that of the letter c, a code up to 3, with k from 0 to 3
+record AnswerFor (M : Letters) (A : ℕ → ℕ → G) (c k : ℕ) : Type 0 where
+  right : (x y : ℕ) → x < 2 → y < 2 → A x y ≡ i^ k ⊗ M c x y
+  letter : c < 4
+  power : k < 4
 
-multiplied : (M : Letters) (l r c k : ℕ) → multiplyLetters M l r ≡ gives (c, k) → GivenOfTwo l r (times M l r) c k
+found : (M : Letters) (A : ℕ → ℕ → G) (b : Bool) (c k : ℕ) → asLetter M A < 16 → Given b (asLetter M A) c k → AnswerFor M A c k
+found M A b c k h g = record {
+  right = λ x y hx hy. asLetter-right M A h x y hx hy ∙ ap₂ (λ k c. i^ k ⊗ M c x y) (g .power) (g .letter);
+  letter = omega (arith, g .letter);
+  power = omega (arith, g .power, h);
+}
+
+-- a letter that passed the test is a code up to 3
+passed-below : {l : ℕ} → ltb highestLetter l ≡ false → l < 4
+passed-below {l} e = omega (arith, ltb-false highestLetter l e)
+
+-- ---- the product of two letters
+
+-- both letters are codes up to 3
+factors-below : (M : Letters) (l r c k : ℕ) → multiplyLetters M l r ≡ gives (c, k) → (l < 4) × (r < 4)
 unfolding multiplyLetters
-multiplied M l r c k e =
+factors-below M l r c k e =
     let g = given (ltb highestLetter l || ltb highestLetter r) (times M l r) c k e in
     let s = neither (ltb highestLetter l) (ltb highestLetter r) (g .passed) in
-    record {
-      left = omega (arith, ltb-false highestLetter l (s .0));
-      right = omega (arith, ltb-false highestLetter r (s .1));
-      letter = g .letter;
-      power = g .power;
-    }
+    (passed-below (s .0), passed-below (s .1))
 
--- the product of two letters' matrices
+multiply-answer : (kind : Kind) (l r c k : ℕ) → multiplyLetters (lettersOf kind) l r ≡ gives (c, k)
+    → AnswerFor (lettersOf kind) (product (lettersOf kind l) (lettersOf kind r)) c k
+unfolding multiplyLetters times
+multiply-answer kind l r c k e =
+    let M = lettersOf kind in
+    let h = factors-below M l r c k e in
+    found M (product (M l) (M r)) (ltb highestLetter l || ltb highestLetter r) c k (closed kind .times-lt l r (h .0) (h .1))
+    (given (ltb highestLetter l || ltb highestLetter r) (times M l r) c k e)
+
 pub multiply-letter-right : (kind : Kind) (l r c k : ℕ) → multiplyLetters (lettersOf kind) l r ≡ gives (c, k) → (x y : ℕ) → x < 2 → y < 2
     → product (lettersOf kind l) (lettersOf kind r) x y ≡ i^ k ⊗ lettersOf kind c x y
-multiply-letter-right kind l r c k e x y hx hy =
-    let M = lettersOf kind in
-    let g = multiplied M l r c k e in
-    times-right M (closed kind) l r (g .left) (g .right) x y hx hy ∙ ap₂ (λ k c. i^ k ⊗ M c x y) (g .power) (g .letter)
-
--- the conjugate transpose of a letter's matrix
-pub conjugate-letter-right : (kind : Kind) (l c k : ℕ) → conjugateLetter (lettersOf kind) l ≡ gives (c, k) → (x y : ℕ) → x < 2 → y < 2
-    → adjoint (lettersOf kind l) x y ≡ i^ k ⊗ lettersOf kind c x y
-unfolding conjugateLetter
-conjugate-letter-right kind l c k e x y hx hy =
-    let M = lettersOf kind in
-    let g = given (ltb highestLetter l) (conjugated M l) c k e in
-    conjugated-right M (closed kind) l (omega (arith, ltb-false highestLetter l (g .passed))) x y hx hy ∙ ap₂ (λ k c. i^ k ⊗ M c x y) (g .power) (g .letter)
-
--- a letter's matrix in letters of the other kind
-pub convert-letter-right : (kind : Kind) (l c k : ℕ) → convertLetter (lettersOf kind) (lettersOf (other kind)) l ≡ gives (c, k)
-    → (x y : ℕ) → x < 2 → y < 2 → lettersOf kind l x y ≡ i^ k ⊗ lettersOf (other kind) c x y
-unfolding convertLetter
-convert-letter-right kind l c k e x y hx hy =
-    let M′ = lettersOf (other kind) in
-    let g = given (ltb highestLetter l) (converted (lettersOf kind) M′ l) c k e in
-    converted-right (lettersOf kind) M′ (converts kind (other kind)) l (omega (arith, ltb-false highestLetter l (g .passed))) x y hx hy
-    ∙ ap₂ (λ k c. i^ k ⊗ M′ c x y) (g .power) (g .letter)
-
--- ---- the number
-
--- that of one of the sixteen is 0 to 3
-power-below : {e k : ℕ} → powerOf e ≡ k → e < 16 → k < 4
-power-below p h = omega arith
+multiply-letter-right kind l r c k e = multiply-answer kind l r c k e .right
 
 pub multiply-letter-below : (kind : Kind) (l r c k : ℕ) → multiplyLetters (lettersOf kind) l r ≡ gives (c, k) → k < 4
-multiply-letter-below kind l r c k e =
-    let g = multiplied (lettersOf kind) l r c k e in
-    power-below (g .power) (closed kind .times-lt l r (g .left) (g .right))
+multiply-letter-below kind l r c k e = multiply-answer kind l r c k e .power
+
+-- ---- the conjugate transpose of a letter
+
+conjugate-answer : (kind : Kind) (l c k : ℕ) → conjugateLetter (lettersOf kind) l ≡ gives (c, k) → AnswerFor (lettersOf kind) (adjoint (lettersOf kind l)) c k
+unfolding conjugateLetter conjugated
+conjugate-answer kind l c k e =
+    let M = lettersOf kind in
+    let g = given (ltb highestLetter l) (conjugated M l) c k e in
+    found M (adjoint (M l)) (ltb highestLetter l) c k (closed kind .conjugated-lt l (passed-below (g .passed))) g
+
+pub conjugate-letter-right : (kind : Kind) (l c k : ℕ) → conjugateLetter (lettersOf kind) l ≡ gives (c, k) → (x y : ℕ) → x < 2 → y < 2
+    → adjoint (lettersOf kind l) x y ≡ i^ k ⊗ lettersOf kind c x y
+conjugate-letter-right kind l c k e = conjugate-answer kind l c k e .right
 
 pub conjugate-letter-below : (kind : Kind) (l c k : ℕ) → conjugateLetter (lettersOf kind) l ≡ gives (c, k) → k < 4
-unfolding conjugateLetter
-conjugate-letter-below kind l c k e =
-    let g = given (ltb highestLetter l) (conjugated (lettersOf kind) l) c k e in
-    power-below (g .power) (closed kind .conjugated-lt l (omega (arith, ltb-false highestLetter l (g .passed))))
+conjugate-letter-below kind l c k e = conjugate-answer kind l c k e .power
+
+-- ---- a letter in letters of the other kind
+
+convert-answer : (kind : Kind) (l c k : ℕ) → convertLetter (lettersOf kind) (lettersOf (other kind)) l ≡ gives (c, k)
+    → AnswerFor (lettersOf (other kind)) (lettersOf kind l) c k
+unfolding convertLetter converted
+convert-answer kind l c k e =
+    let M′ = lettersOf (other kind) in
+    let g = given (ltb highestLetter l) (converted (lettersOf kind) M′ l) c k e in
+    found M′ (lettersOf kind l) (ltb highestLetter l) c k (converts kind (other kind) .converted-lt l (passed-below (g .passed))) g
+
+pub convert-letter-right : (kind : Kind) (l c k : ℕ) → convertLetter (lettersOf kind) (lettersOf (other kind)) l ≡ gives (c, k)
+    → (x y : ℕ) → x < 2 → y < 2 → lettersOf kind l x y ≡ i^ k ⊗ lettersOf (other kind) c x y
+convert-letter-right kind l c k e = convert-answer kind l c k e .right
 
 pub convert-letter-below : (kind : Kind) (l c k : ℕ) → convertLetter (lettersOf kind) (lettersOf (other kind)) l ≡ gives (c, k) → k < 4
-unfolding convertLetter
-convert-letter-below kind l c k e =
-    let g = given (ltb highestLetter l) (converted (lettersOf kind) (lettersOf (other kind)) l) c k e in
-    power-below (g .power) (converts kind (other kind) .converted-lt l (omega (arith, ltb-false highestLetter l (g .passed))))
+convert-letter-below kind l c k e = convert-answer kind l c k e .power
 
--- a letter's matrix leaves one such number in front of it
-pub one-letter-power : (kind : Kind) (c : ℕ) → c < 4 → (j k : ℕ) → j < 4 → k < 4
-    → ((x y : ℕ) → x < 2 → y < 2 → i^ j ⊗ lettersOf kind c x y ≡ i^ k ⊗ lettersOf kind c x y) → j ≡ k
-one-letter-power kind c h j k hj hk e =
+-- ---- no other number
+
+-- a matrix that is i^k times that of the letter in an answer is i^j times it for no other j from 0 to 3
+one-letter-power : (kind : Kind) (A : ℕ → ℕ → G) (c k : ℕ) → AnswerFor (lettersOf kind) A c k → (j : ℕ) → j < 4
+    → ((x y : ℕ) → x < 2 → y < 2 → A x y ≡ i^ j ⊗ lettersOf kind c x y) → j ≡ k
+one-letter-power kind A c k a j hj e =
     let M = lettersOf kind in
     let y = cell M c 0 % 2 in
     let hy : y < 2 = omega arith in
-    let entry = closed kind .cell-right c 0 y h (omega arith) hy ∙ ap (λ t. cond t (i^ (cell M c 0 / 2)) 𝟘) (eq-eqb y y refl) in
-    let same = e 0 y (omega arith) hy in
-    i^-known-beside (cell M c 0 / 2) j k hj hk (rw entry at same)
+    let entry = closed kind .cell-right c 0 y (a .letter) (omega arith) hy ∙ ap (λ t. cond t (i^ (cell M c 0 / 2)) 𝟘) (eq-eqb y y refl) in
+    let same = sym (e 0 y (omega arith) hy) ∙ a .right 0 y (omega arith) hy in
+    i^-same-beside (cell M c 0 / 2) j k hj (a .power) (rw entry at same)
+
+pub multiply-letter-one-power : (kind : Kind) (l r c k : ℕ) → multiplyLetters (lettersOf kind) l r ≡ gives (c, k) → (j : ℕ) → j < 4
+    → ((x y : ℕ) → x < 2 → y < 2 → product (lettersOf kind l) (lettersOf kind r) x y ≡ i^ j ⊗ lettersOf kind c x y) → j ≡ k
+multiply-letter-one-power kind l r c k e = one-letter-power kind (product (lettersOf kind l) (lettersOf kind r)) c k (multiply-answer kind l r c k e)
+
+pub conjugate-letter-one-power : (kind : Kind) (l c k : ℕ) → conjugateLetter (lettersOf kind) l ≡ gives (c, k) → (j : ℕ) → j < 4
+    → ((x y : ℕ) → x < 2 → y < 2 → adjoint (lettersOf kind l) x y ≡ i^ j ⊗ lettersOf kind c x y) → j ≡ k
+conjugate-letter-one-power kind l c k e = one-letter-power kind (adjoint (lettersOf kind l)) c k (conjugate-answer kind l c k e)
+
+pub convert-letter-one-power : (kind : Kind) (l c k : ℕ) → convertLetter (lettersOf kind) (lettersOf (other kind)) l ≡ gives (c, k) → (j : ℕ) → j < 4
+    → ((x y : ℕ) → x < 2 → y < 2 → lettersOf kind l x y ≡ i^ j ⊗ lettersOf (other kind) c x y) → j ≡ k
+convert-letter-one-power kind l c k e = one-letter-power (other kind) (lettersOf kind l) c k (convert-answer kind l c k e)
 
 -- ---- even powers
 
@@ -163,15 +184,16 @@ even-sign (suc (suc (suc (suc k)))) h e = absurd (omega arith)
 
 -- the product of two decoherence letters
 pub multiply-letter-sign : (l r c k : ℕ) → multiplyLetters decoherence l r ≡ gives (c, k) → Sign k
-unfolding lettersOf
+unfolding multiplyLetters lettersOf
 multiply-letter-sign l r c k e =
-    let g = multiplied decoherence l r c k e in
-    let even = times-even l r (g .left) (g .right) in
+    let h = factors-below decoherence l r c k e in
+    let g = given (ltb highestLetter l || ltb highestLetter r) (times decoherence l r) c k e in
+    let even = times-even l r (h .0) (h .1) in
     even-sign k (multiply-letter-below Decoherence l r c k e) (rw (g .power) at even)
 
--- the conjugate of a letter: the letter itself, with the power 2 for iY
-pub conjugate-letter-whole : (kind : Kind) (l : ℕ) → l ≤ highestLetter → conjugateLetter (lettersOf kind) l ≡ gives (l, cond (eqb l 2) (conjugatePower kind) 0)
-unfolding conjugateLetter
-conjugate-letter-whole kind l h =
+-- the conjugate of a decoherence letter: the letter itself, with the power 2 for iY and 0 for every other
+pub conjugate-letter-sign : (l : ℕ) → l ≤ highestLetter → conjugateLetter decoherence l ≡ gives (l, cond (eqb l 2) 2 0)
+unfolding conjugateLetter lettersOf
+conjugate-letter-sign l h =
     rw (le-ltb highestLetter l h)
-    (ap₂ (λ c k. gives (c, k)) (closed kind .conjugated-letter l (omega arith)) (conjugated-power kind l (omega arith)))
+    (ap₂ (λ c k. gives (c, k)) (closed Decoherence .conjugated-letter l (omega arith)) (conjugated-power Decoherence l (omega arith)))

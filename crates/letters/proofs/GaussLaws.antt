@@ -322,26 +322,26 @@ one-not-zero e = let p : _≡_ {A = ℕ} 1 0 = ap (λ x. natAbs (x .re)) e in om
 pub i^-not-zero : (k : ℕ) → i^ k ≡ 𝟘 → ⊥
 i^-not-zero k e = one-not-zero (sym (i^-unit k) ∙ ap (λ x. i^ (3 * k) ⊗ x) e ∙ ⊗-𝟘 (i^ (3 * k)))
 
--- the first of the four powers of i that a number is
-powerIn : G → ℕ
-powerIn z = firstFrom (λ k. eqG z (i^ k)) 4 0
+-- the first of i^0 to i^3 that a number is
+firstPower : G → ℕ
+firstPower z = firstFrom (λ k. eqG z (i^ k)) 4 0
 
--- of i^k, with k from 0 to 3, that is k
-power-in : (k : ℕ) → k < 4 → powerIn (i^ k) ≡ k
-unfolding powerIn firstFrom eqG eqℤ i^ i⁺ 𝟙 _⊗_
-power-in zero h = refl
-power-in (suc zero) h = refl
-power-in (suc (suc zero)) h = refl
-power-in (suc (suc (suc zero))) h = refl
-power-in (suc (suc (suc (suc k)))) h = absurd (omega arith)
+-- of each of the four it is the power itself
+first-power : (k : ℕ) → k < 4 → firstPower (i^ k) ≡ k
+unfolding firstPower firstFrom eqG eqℤ i^ i⁺ 𝟙 _⊗_
+first-power zero h = refl
+first-power (suc zero) h = refl
+first-power (suc (suc zero)) h = refl
+first-power (suc (suc (suc zero))) h = refl
+first-power (suc (suc (suc (suc k)))) h = absurd (omega arith)
 
--- so a number is one power of i at most
-pub i^-known : (j k : ℕ) → j < 4 → k < 4 → i^ j ≡ i^ k → j ≡ k
-i^-known j k hj hk e = sym (power-in j hj) ∙ ap powerIn e ∙ power-in k hk
+-- i^j is i^k, with j and k from 0 to 3, only where j is k
+pub i^-same : (j k : ℕ) → j < 4 → k < 4 → i^ j ≡ i^ k → j ≡ k
+i^-same j k hj hk e = sym (first-power j hj) ∙ ap firstPower e ∙ first-power k hk
 
--- and still is beside another
-pub i^-known-beside : (a j k : ℕ) → j < 4 → k < 4 → i^ j ⊗ i^ a ≡ i^ k ⊗ i^ a → j ≡ k
-i^-known-beside a j k hj hk e = i^-known j k hj hk (sym (alone j) ∙ ap (λ x. i^ (3 * a) ⊗ x) e ∙ alone k)
+-- also where both stand before another power of i
+pub i^-same-beside : (a j k : ℕ) → j < 4 → k < 4 → i^ j ⊗ i^ a ≡ i^ k ⊗ i^ a → j ≡ k
+i^-same-beside a j k hj hk e = i^-same j k hj hk (sym (alone j) ∙ ap (λ x. i^ (3 * a) ⊗ x) e ∙ alone k)
   where
     alone : (j : ℕ) → i^ (3 * a) ⊗ (i^ j ⊗ i^ a) ≡ i^ j
     alone j = ap (λ x. i^ (3 * a) ⊗ x) (⊗-comm (i^ j) (i^ a)) ∙ sym (⊗-assoc (i^ (3 * a)) (i^ a) (i^ j)) ∙ ap (λ x. x ⊗ i^ j) (i^-unit a) ∙ 𝟙-⊗ (i^ j)

@@ -15,7 +15,7 @@ use Rattle.letters.specs.Matrices.{Letters, bit, matrix, product, adjoin
 use Rattle.letters.specs.Single.{letterOf, powerOf, times, conjugated, converted, cell}
 use Rattle.letters.specs.Rows.{columnOf, rowPower}
 use Rattle.letters.proofs.TestLaws.{eqb-sym}
-use Rattle.letters.proofs.GaussLaws.{𝟙-⊗, ⊗-𝟙, 𝟘-⊗, ⊗-𝟘, 𝟘-⊕, ⊕-𝟘, i^-zero, i^-mod, i^-not-zero, i^-known-beside}
+use Rattle.letters.proofs.GaussLaws.{𝟙-⊗, ⊗-𝟙, 𝟘-⊗, ⊗-𝟘, 𝟘-⊕, ⊕-𝟘, i^-zero, i^-mod, i^-not-zero, i^-same-beside}
 use Rattle.letters.proofs.SumLaws.{Π-cong-below, Π-mul, Π-i^, conj-Π, total-zero}
 use Rattle.letters.proofs.BitLaws.{bit-lt, binary-lt, binary-bits, one-cell, tensor-product}
 use Rattle.letters.proofs.TableLaws.{Closed, Converts, times-right, conjugated-right, converted-right}
@@ -166,9 +166,10 @@ row-entry M C n f hf r =
 pub row-not-zero : (M : Letters) → Closed M → (n : ℕ) (f : ℕ → ℕ) → ((s : ℕ) → s < n → f s < 4) → (r : ℕ) → matrix M n f r (columnOf M n f r) ≡ 𝟘 → ⊥
 row-not-zero M C n f hf r e = i^-not-zero (rowPower M n f r) (sym (row-entry M C n f hf r) ∙ e)
 
--- the matrix leaves one power of i, 0 to 3, in front of it
-pub one-power : (M : Letters) → Closed M → (n : ℕ) (f : ℕ → ℕ) → ((s : ℕ) → s < n → f s < 4) → (j k : ℕ) → j < 4 → k < 4
-    → ((r c : ℕ) → r < 2 ^ n → c < 2 ^ n → i^ j ⊗ matrix M n f r c ≡ i^ k ⊗ matrix M n f r c) → j ≡ k
-one-power M C n f hf j k hj hk e =
-    let h = e 0 (columnOf M n f 0) (pow-pos n) (columnOf-lt M n f 0) in
-    i^-known-beside (rowPower M n f 0) j k hj hk (rw (row-entry M C n f hf 0) at h)
+-- a matrix that is i^k times that of a lettering is i^j times it for no other j from 0 to 3
+pub one-power : (M : Letters) → Closed M → (n : ℕ) (f : ℕ → ℕ) → ((s : ℕ) → s < n → f s < 4) → (A : ℕ → ℕ → G) (j k : ℕ) → j < 4 → k < 4
+    → ((r c : ℕ) → r < 2 ^ n → c < 2 ^ n → A r c ≡ i^ j ⊗ matrix M n f r c) → ((r c : ℕ) → r < 2 ^ n → c < 2 ^ n → A r c ≡ i^ k ⊗ matrix M n f r c) → j ≡ k
+one-power M C n f hf A j k hj hk a b =
+    let c = columnOf M n f 0 in
+    let same = sym (a 0 c (pow-pos n) (columnOf-lt M n f 0)) ∙ b 0 c (pow-pos n) (columnOf-lt M n f 0) in
+    i^-same-beside (rowPower M n f 0) j k hj hk (rw (row-entry M C n f hf 0) at same)

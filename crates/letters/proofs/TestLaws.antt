@@ -36,10 +36,7 @@ bool-ext false false f g = refl
 
 -- equality of numbers, turned round
 pub eqb-sym : (a b : ℕ) → eqb a b ≡ eqb b a
-eqb-sym a b = bool-ext (eqb a b) (eqb b a) (turned a b) (turned b a)
-  where
-    turned : (a b : ℕ) → eqb a b ≡ true → eqb b a ≡ true
-    turned a b e = eq-eqb b a (sym (eqb-true a b e))
+eqb-sym a b = bool-ext (eqb a b) (eqb b a) (λ e. eq-eqb b a (sym (eqb-true a b e))) (λ e. eq-eqb a b (sym (eqb-true b a e)))
 
 -- ---- every
 

@@ -1,5 +1,5 @@
 -- The table of the cases that document 01 marks ●, line by line. The factor of a product, a conjugate or a conversion stands there as its power of i
--- (document 02): i is 1, -1 is 2, -i is 3.
+-- (document 02): 1 is 0, i is 1, -1 is 2, -i is 3.
 use Prim.Native.Nat.{ℕ}
 use mathlib.Core.List.{List, [], _∷_, map}
 use lib.IntN.{pos}

@@ -13,6 +13,7 @@ pub(crate) fn refused(why: Refusal) {
     io::write_all(1, b"\n");
 }
 
+// Whether the state came back as it was.
 fn print_state(same: bool) {
     if same {
         io::write_all(1, b"; state as before\n");
@@ -21,7 +22,7 @@ fn print_state(same: bool) {
     }
 }
 
-// Of an entry that answers another type than it takes.
+// Whether the empty record stands there, where the answer is of another type than what was handed in.
 fn print_anew(empty: bool) {
     if empty {
         io::write_all(1, b"; empty beside it\n");
