@@ -1,20 +1,24 @@
 #!/usr/bin/env python3
-"""report.py TIMES.csv DOCS: writes the tables of DOCS/SPEED.md, between its marks, and DOCS/speed.svg."""
+"""report.py DOCS TIMES.csv..: writes the tables of DOCS/SPEED.md, between its marks, and DOCS/speed.svg, from the medians of the runs."""
 import math
 import re
+import statistics
 import sys
 
 WIDTH, HEIGHT, MARGIN = 420, 300, 60
 COLOURS = ["#1f5fa8", "#c0392b", "#2e7d32", "#b26a00"]
 
 
-def read(path):
-    """(group, name, x, ns of the Rust or None, ns of ours)"""
-    lines = []
-    for line in open(path, encoding="utf-8"):
-        group, name, x, rust, ours = line.strip().split(",")
-        lines.append((group, name, int(x), float(rust) if rust else None, float(ours)))
-    return lines
+def read(paths):
+    """(group, name, x, ns of the Rust or None, ns of ours), each the median of the runs"""
+    runs = {}
+    for path in paths:
+        for line in open(path, encoding="utf-8"):
+            group, name, x, rust, ours = line.strip().split(",")
+            rust_times, our_times = runs.setdefault((group, name, int(x)), ([], []))
+            rust_times.extend([float(rust)] if rust else [])
+            our_times.append(float(ours))
+    return [(*case, statistics.median(rusts) if rusts else None, statistics.median(ours)) for case, (rusts, ours) in runs.items()]
 
 
 def time(ns):
@@ -34,8 +38,10 @@ def ratio(rust, ours):
 
 
 def cases(lines):
+    """a call's lines together, in the order of first lines"""
     rows = ["| call | input | Rust | here | Rust / here |", "|---|---|---|---|---|"]
-    for group, name, x, rust, ours in lines:
+    calls, inputs = [line[0] for line in lines], [line[:2] for line in lines]
+    for group, name, x, rust, ours in sorted(lines, key=lambda line: (calls.index(line[0]), inputs.index(line[:2]))):
         if not group.startswith("growth"):
             sites = f"; {x} sites" if x else ""
             rows.append(f"| {group} | {name}{sites} | {time(rust)} | {time(ours)} | {ratio(rust, ours)} |")
@@ -98,7 +104,7 @@ def plot(lines):
 
 
 def main():
-    lines, docs = read(sys.argv[1]), sys.argv[2]
+    docs, lines = sys.argv[1], read(sys.argv[2:])
     text = open(f"{docs}/SPEED.md", encoding="utf-8").read()
     for mark, table in (("cases", cases(lines)), ("growth", growth(lines))):
         text = re.sub(f"(<!-- {mark} -->\n).*?(<!-- end -->)", lambda m: m[1] + table + "\n" + m[2], text, flags=re.S)
