@@ -18,7 +18,7 @@ use Rattle.term_sets.specs.declared.TermSet.{TermSet}
 use Rattle.hamiltonians.specs.declared.pauli_hamiltonian.RealTerm.{RealTerm}
 use Rattle.hamiltonians.specs.declared.pauli_hamiltonian.PauliHamiltonian.{PauliHamiltonian}
 use Rattle.hamiltonians.proofs.RealValidLaws.{valid-products}
-use Rattle.chains.proofs.ValidAnswers.{HasValid, zeros-allowed, chain-answer, times-products}
+use Rattle.chains.proofs.ValidAnswers.{HasValid, zeros-allowed, chain-answer, times-answer}
 
 -- the terms of a valid Hamiltonian with complex coefficients have valid products
 complex-products : (s : PauliHamiltonian) → validSet s ≡ true → All HasValid (map complexTerm (heldBy s))
@@ -31,7 +31,7 @@ module _ (s t : PauliHamiltonian) where
   multiply-answer =
       answered-past (validSet s) _ _ _ (λ v.
       answered-past (validSet t) _ _ _ (λ w.
-      chain-answer (complexes.filled []) _ (times-products Kind.Pauli (map complexTerm (heldBy s)) (map complexTerm (heldBy t)) (complex-products s v) (complex-products t w))))
+      times-answer Kind.Pauli (complexes.filled []) (map complexTerm (heldBy s)) (map complexTerm (heldBy t)) (complex-products s v) (complex-products t w)))
 
   -- an accepted product of two Hamiltonians is a valid operator and holds no zero
   pub multiply-reals-nonzero : (x : TermSet) → multiplyReals s t ≡ (done, x) → complexes.validSet false x ≡ true

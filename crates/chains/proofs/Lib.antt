@@ -1,5 +1,5 @@
-pub mod ChainLaws
-pub mod GatherLaws
+pub mod PassLaws
+pub mod ProductLaws
 pub mod ValidAnswers
 pub mod HamiltonianProductAnswers
 pub mod OperatorTheorems

@@ -3,11 +3,10 @@
 -- Assumes nothing.
 use mathlib.Core.Path.{_≡_, sym, ap, _∙_}
 use mathlib.Core.Bool.{true}
-use mathlib.Core.List.{List, []}
-use mathlib.Core.Option.{some}
+use mathlib.Core.List.{List, [], map}
 use Prim.Native.Nat.{ℕ, _^_}
 use native.Mathlib.Nat.{max-le}
-use Rattle.refusal.specs.Refusals.{done}
+use Rattle.refusal.specs.Refusals.{gives, done}
 use Rattle.letters.specs.Gauss.{G, _⊕_, _⊗_, conj}
 use Rattle.letters.specs.Sums.{Σ}
 use Rattle.letters.specs.Matrices.{Letters, lettersOf, matrix}
@@ -22,8 +21,9 @@ use Rattle.items.proofs.SameLaws.{same-equal}
 use Rattle.products.proofs.ProductTheorems.{multiply-theorem, conjugate-theorem, convert-theorem}
 use Rattle.terms.specs.Gaussian.{gaussianProducts, weighted, summed}
 use Rattle.terms.specs.Setting.{coefficientAt, write, added, addAll}
-use Rattle.terms.specs.Chains.{timesTerms, conjugateTerms, convertTerms, scaledTerms}
+use Rattle.terms.specs.Chains.{given, timesSteps, conjugateTerms, convertTerms, scaledTerms}
 use Rattle.terms.proofs.KeyedLaws.{All}
+use Rattle.terms.proofs.StepLaws.{timesTerms, times-given}
 use Rattle.terms.proofs.Totals.{weighted-write, weighted-added, weighted-addAll, weighted-times, weighted-product, weighted-conjugate, weighted-convert, weighted-scaled}
 use Rattle.term_sets.specs.Matrices.{gaussianTerms, matrixOf, Fits}
 
@@ -61,7 +61,7 @@ add-theorem M n k a l r c = weighted-added sameItems (λ p. matrix M n (letterAt
 
 -- terms added to the empty set, one after the other, have the matrix of the terms; so a Hamiltonian keeps its matrix as an operator
 -- (`intoOperator`)
-pub added-terms-theorem : (M : Letters) (n : ℕ) (ts x : List (Items × G)) → addAll gaussianTerms ts [] ≡ some x → (r c : ℕ)
+pub added-terms-theorem : (M : Letters) (n : ℕ) (ts x : List (Items × G)) → addAll gaussianTerms (map gives ts) [] ≡ gives x → (r c : ℕ)
     → matrixOf M n x r c ≡ matrixOf M n ts r c
 unfolding matrixOf summed
 added-terms-theorem M n ts x e r c =
@@ -73,12 +73,18 @@ module _ (kind : Kind) (n : ℕ) where
   abbrev M : Letters
   M = lettersOf kind
 
+  -- no product of valid ones is refused
+  terms-only : (l t : List (Items × G)) → All (λ y. Fits n (y .0)) l → All (λ y. Fits n (y .0)) t
+      → timesSteps gaussianTerms gaussianProducts (λ p q. given (multiplyAnswer M p q)) l t ≡ map gives (timesTerms gaussianTerms gaussianProducts (λ p q. multiplyAnswer M p q .1) l t)
+  terms-only =
+      times-given gaussianTerms gaussianProducts (λ p q. given (multiplyAnswer M p q)) (λ p q. multiplyAnswer M p q .1) (Fits n) (λ p q hp hq. ap given (multiply-done M p q (hp .0) (hq .0)))
+
   -- the product of two sets has the product of their matrices
   pub times-theorem : (l t x : List (Items × G)) → All (λ y. Fits n (y .0)) l → All (λ y. Fits n (y .0)) t
-      → addAll gaussianTerms (timesTerms gaussianTerms gaussianProducts (λ p q. multiplyAnswer M p q .1) l t) [] ≡ some x → (r c : ℕ)
+      → addAll gaussianTerms (timesSteps gaussianTerms gaussianProducts (λ p q. given (multiplyAnswer M p q)) l t) [] ≡ gives x → (r c : ℕ)
       → matrixOf M n x r c ≡ Σ (2 ^ n) (λ m. matrixOf M n l r m ⊗ matrixOf M n t m c)
   times-theorem l t x hl ht e r c =
-      added-terms-theorem M n (timesTerms gaussianTerms gaussianProducts (λ p q. multiplyAnswer M p q .1) l t) x e r c
+      added-terms-theorem M n (timesTerms gaussianTerms gaussianProducts (λ p q. multiplyAnswer M p q .1) l t) x (ap (λ s. addAll gaussianTerms s []) (sym (terms-only l t hl ht)) ∙ e) r c
       ∙ (unfold matrixOf in
       weighted-times sameItems (λ p. matrix M n (letterAt p) r c) (Fits n) (λ p q. multiplyAnswer M p q .1) (λ p q. Σ (2 ^ n) (λ m. matrix M n (letterAt p) r m ⊗ matrix M n (letterAt q) m c))
       (λ p q hp hq.
@@ -88,7 +94,7 @@ module _ (kind : Kind) (n : ℕ) where
 
   -- the conjugate of a set has the conjugate transpose of its matrix
   pub conjugate-set-theorem : (l x : List (Items × G)) → All (λ y. Fits n (y .0)) l
-      → addAll gaussianTerms (conjugateTerms gaussianTerms gaussianProducts (λ p. conjugateAnswer M p .1) l) [] ≡ some x → (r c : ℕ)
+      → addAll gaussianTerms (map gives (conjugateTerms gaussianTerms gaussianProducts (λ p. conjugateAnswer M p .1) l)) [] ≡ gives x → (r c : ℕ)
       → matrixOf M n x r c ≡ conj (matrixOf M n l c r)
   conjugate-set-theorem l x hl e r c =
       added-terms-theorem M n (conjugateTerms gaussianTerms gaussianProducts (λ p. conjugateAnswer M p .1) l) x e r c
@@ -98,7 +104,7 @@ module _ (kind : Kind) (n : ℕ) where
 
   -- a set in letters of the other kind has the same matrix
   pub convert-set-theorem : (l x : List (Items × G)) → All (λ y. Fits n (y .0)) l
-      → addAll gaussianTerms (convertTerms gaussianTerms gaussianProducts (λ p. convertAnswer M (lettersOf (other kind)) p .1) l) [] ≡ some x → (r c : ℕ)
+      → addAll gaussianTerms (map gives (convertTerms gaussianTerms gaussianProducts (λ p. convertAnswer M (lettersOf (other kind)) p .1) l)) [] ≡ gives x → (r c : ℕ)
       → matrixOf (lettersOf (other kind)) n x r c ≡ matrixOf M n l r c
   convert-set-theorem l x hl e r c =
       added-terms-theorem (lettersOf (other kind)) n (convertTerms gaussianTerms gaussianProducts (λ p. convertAnswer M (lettersOf (other kind)) p .1) l) x e r c

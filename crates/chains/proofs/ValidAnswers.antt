@@ -3,12 +3,11 @@
 -- Assumes nothing.
 use Prim.Native.Nat.{ℕ}
 use native.Mathlib.Omega.{arith}
-use mathlib.Core.Path.{_≡_, refl, ap, _∙_}
+use mathlib.Core.Path.{_≡_, refl, sym, ap, _∙_, subst}
 use mathlib.Core.Bool.{Bool, true, false, not, _||_}
 use mathlib.Core.List.{List, [], _∷_, map}
-use mathlib.Core.Option.{Option}
 use lib.ListN.{length-map}
-use Rattle.refusal.specs.Refusals.{gives, refuses, done}
+use Rattle.refusal.specs.Refusals.{Said, gives, refuses, done}
 use Rattle.complex.specs.Complex.{isZero, inRange}
 use Rattle.complex.specs.declared.Complex.{Complex}
 use Rattle.letters.specs.Matrices.{Letters, lettersOf}
@@ -22,19 +21,21 @@ use Rattle.items.specs.declared.Items.{Items}
 use Rattle.products.proofs.ProductTheorems.{multiply-valid, conjugate-valid, convert-valid}
 use Rattle.terms.specs.Keyed.{has}
 use Rattle.terms.specs.Setting.{keyed, addAll}
-use Rattle.terms.specs.Chains.{timesTerms, conjugateTerms, convertTerms, scaledTerms}
+use Rattle.terms.specs.Chains.{given, conjugateTerms, convertTerms, scaledTerms}
 use Rattle.terms.specs.Entries as entries
 use Rattle.terms.proofs.KeyedLaws.{All, all-each}
 use Rattle.terms.proofs.SettingLaws.{different}
 use Rattle.terms.proofs.EachLaws.{each-follows, all-results, all-lists, each-results}
 use Rattle.terms.proofs.GoodLaws.{all-good}
-use Rattle.terms.proofs.AnswerLaws.{Answered, answered-past, finally-answered, collected-answered}
+use Rattle.terms.proofs.AnswerLaws.{Answered, answered-past, finally-answered, ended-answered}
+use Rattle.terms.proofs.StepLaws.{giving-terms, timesTerms, times-given}
 use Rattle.terms.proofs.ValidSetLaws as laws
 use Rattle.term_sets.specs.Complexes.{complexTerms, complexProducts, heldBy, filled, goodCoefficient, validSet}
-use Rattle.chains.specs.ChainAnswers.{setTerm, addTerm, allInRange, collected, multiplySets, conjugateSet, convertSet, scaleSet, productTerms, conjugates, conversions}
+use Rattle.term_writing.specs.WritingAnswers.{setTerm, addTerm}
+use Rattle.chains.specs.ChainAnswers.{allInRange, ended, productSteps, multiplySets, conjugateSet, convertSet, scaleSet, conjugates, conversions}
 use Rattle.term_sets.specs.declared.Term.{Term}
 use Rattle.term_sets.specs.declared.TermSet.{TermSet}
-use Rattle.chains.proofs.GatherLaws.{scaledTerm}
+use Rattle.chains.proofs.PassLaws.{scaledTerm}
 use Rattle.term_sets.proofs.ValidLaws.{validTermSets, valid-products}
 
 -- ---- sets where zeros are allowed
@@ -94,12 +95,13 @@ pub held-products : (zeros : Bool) (s : TermSet) → validSet zeros s ≡ true �
 held-products zeros s v = all-each (λ t. valid (t .items)) (heldBy s) (valid-products zeros s v)
 
 -- terms with valid products, added to the empty set: what is held is valid and holds no zero, and s stands beside a refusal
-pub chain-answer : (s : TermSet) (ts : List Term) → All HasValid ts → Answered (λ x. validSet false x ≡ true) s (collected s (addAll complexTerms ts []))
-chain-answer s ts q = laws.chain-valid (validTermSets false) s ts [] q (laws.sound-none (validTermSets false))
+pub chain-answer : (s : TermSet) (ts : List Term) → All HasValid ts → Answered (λ x. validSet false x ≡ true) s (ended s (addAll complexTerms (map gives ts) []))
+chain-answer s ts q =
+    laws.chain-valid (validTermSets false) s (map gives ts) [] (giving-terms complexTerms HasValid ts q) (laws.sound-none (validTermSets false))
 
 -- beside a refusal stands s, whatever is added
-pub chain-keeps : (s : TermSet) (o : Option (List Term)) → Answered (λ x. Unit {0}) s (collected s o)
-chain-keeps s o = collected-answered complexTerms inRange filled o (λ l e r. tt)
+pub chain-keeps : (s : TermSet) (o : Said (List Term)) → Answered (λ x. Unit {0}) s (ended s o)
+chain-keeps s o = ended-answered complexTerms inRange filled o (λ l e r. tt)
 
 -- ---- multiplication
 
@@ -110,14 +112,28 @@ times-valid kind p q v w =
     let z = multiplyAnswer (lettersOf kind) p q .1 in
     multiply-valid kind p q (z .0) (z .1) (rw (v, w))
 
+-- no product of valid ones is refused
+times-said : (M : Letters) (p q : Items) → valid p ≡ true → valid q ≡ true → given (multiplyAnswer M p q) ≡ gives (multiplyAnswer M p q .1)
+unfolding multiplyAnswer
+times-said M p q v w = rw (v, w)
+
 -- the products of the terms of two sets
-pub times-products : (kind : Kind) (l r : List Term) → All HasValid l → All HasValid r → All HasValid (timesTerms complexTerms complexProducts (λ p q. multiplyAnswer (lettersOf kind) p q .1) l r)
+times-products : (kind : Kind) (l r : List Term) → All HasValid l → All HasValid r → All HasValid (timesTerms complexTerms complexProducts (λ p q. multiplyAnswer (lettersOf kind) p q .1) l r)
 unfolding timesTerms
 times-products kind l r hl hr =
     all-lists HasValid HasValid _ (λ x hx. all-results HasValid HasValid _ (λ y hy. times-valid kind (x .items) (y .items) hx hy) r hr) l hl
 
+-- their chain
+pub times-answer : (kind : Kind) (s : TermSet) (l r : List Term) → All HasValid l → All HasValid r
+    → Answered (λ x. validSet false x ≡ true) s (ended s (addAll complexTerms (productSteps (lettersOf kind) l r) []))
+times-answer kind s l r hl hr =
+    let M = lettersOf kind in
+    let e = times-given complexTerms complexProducts (λ p q. given (multiplyAnswer M p q)) (λ p q. multiplyAnswer M p q .1) (λ p. valid p ≡ true) (times-said M) l r hl hr in
+    subst (λ (xs : List (Said Term)). Answered (λ x. validSet false x ≡ true) s (ended s (addAll complexTerms xs []))) (sym e)
+    (chain-answer s (timesTerms complexTerms complexProducts (λ p q. multiplyAnswer M p q .1) l r) (times-products kind l r hl hr))
+
 module _ (M : Letters) (zeros : Bool) (s t : TermSet) where
-  multiply-answer : {P : TermSet → Type 0} → (validSet zeros s ≡ true → validSet zeros t ≡ true → Answered P s (collected s (addAll complexTerms (productTerms M (heldBy s) (heldBy t)) [])))
+  multiply-answer : {P : TermSet → Type 0} → (validSet zeros s ≡ true → validSet zeros t ≡ true → Answered P s (ended s (addAll complexTerms (productSteps M (heldBy s) (heldBy t)) [])))
       → Answered P s (multiplySets M zeros s t)
   unfolding multiplySets
   multiply-answer h = answered-past (validSet zeros s) _ _ _ (λ v. answered-past (validSet zeros t) _ _ _ (h v))
@@ -129,7 +145,7 @@ module _ (M : Letters) (zeros : Bool) (s t : TermSet) where
 -- an accepted product of two sets is valid and holds no zero
 pub multiply-sets-nonzero : (kind : Kind) (zeros : Bool) (s t x : TermSet) → multiplySets (lettersOf kind) zeros s t ≡ (done, x) → validSet false x ≡ true
 multiply-sets-nonzero kind zeros s t =
-    multiply-answer (lettersOf kind) zeros s t (λ v w. chain-answer s _ (times-products kind (heldBy s) (heldBy t) (held-products zeros s v) (held-products zeros t w))) .holds tt
+    multiply-answer (lettersOf kind) zeros s t (λ v w. times-answer kind s (heldBy s) (heldBy t) (held-products zeros s v) (held-products zeros t w)) .holds tt
 
 -- so number 0 of its kind lets it pass
 pub multiply-sets-valid : (kind : Kind) (zeros : Bool) (s t x : TermSet) → multiplySets (lettersOf kind) zeros s t ≡ (done, x) → validSet zeros x ≡ true
@@ -145,7 +161,7 @@ conjugated-valid kind p v =
     conjugate-valid kind p (z .0) (z .1) (rw v)
 
 module _ (M : Letters) (zeros : Bool) (s : TermSet) where
-  conjugate-answer : {P : TermSet → Type 0} → (validSet zeros s ≡ true → Answered P s (collected s (addAll complexTerms (conjugates M (heldBy s)) []))) → Answered P s (conjugateSet M zeros s)
+  conjugate-answer : {P : TermSet → Type 0} → (validSet zeros s ≡ true → Answered P s (ended s (addAll complexTerms (map gives (conjugates M (heldBy s))) []))) → Answered P s (conjugateSet M zeros s)
   unfolding conjugateSet
   conjugate-answer h = answered-past (validSet zeros s) _ _ _ h
 
@@ -173,7 +189,7 @@ converted-valid kind p v =
     convert-valid kind p (z .0) (z .1) (rw v)
 
 module _ (M M′ : Letters) (zeros : Bool) (s : TermSet) where
-  convert-answer : {P : TermSet → Type 0} → (validSet zeros s ≡ true → Answered P (filled []) (collected (filled []) (addAll complexTerms (conversions M M′ (heldBy s)) [])))
+  convert-answer : {P : TermSet → Type 0} → (validSet zeros s ≡ true → Answered P (filled []) (ended (filled []) (addAll complexTerms (map gives (conversions M M′ (heldBy s))) [])))
       → Answered P (filled []) (convertSet M M′ zeros s)
   unfolding convertSet
   convert-answer h = answered-past (validSet zeros s) _ _ _ h

@@ -1,3 +1,2 @@
 pub mod ChainAnswers
-pub mod Chained
 pub mod HamiltonianProducts

@@ -1,56 +1,30 @@
-// Chains of additions: what multiplying, conjugating, converting and scaling sets of terms are made of.
+// Chains of additions, which multiplying, conjugating and converting sets of terms are; and scaling, which keeps zeros.
 ghost use mathlib.Core.Path.{_≡_};
-ghost use mathlib.Core.List.{List, [], _∷_, _++_};
-ghost use Rattle.term_sets.specs.Complexes.{termOf, heldBy, filled, complexTerms, complexProducts};
-ghost use Rattle.chains.specs.Chained.{after, Chain, rowTerms};
-ghost use Rattle.chains.specs.ChainAnswers.{allInRange, collected, multiplySets, conjugateSet, convertSet, scaleSet, productTerms, conjugates, conversions};
-ghost use Rattle.terms.specs.Setting.{addAll};
-ghost use Rattle.term_sets.specs.Answers.{told};
+ghost use mathlib.Core.Bool.{true, not};
+ghost use mathlib.Core.List.{[], map};
+ghost use Rattle.refusal.specs.Refusals.{gives};
 ghost use Rattle.letters.specs.Matrices.{lettersOf};
 ghost use Rattle.letters.specs.Answers.{other};
-ghost use Rattle.terms.specs.Chains.{scaledTerms};
-use crate::writing::put;
+ghost use Rattle.terms.specs.Keyed.{has, each};
+ghost use Rattle.terms.specs.Setting.{keyed, addAll};
+ghost use Rattle.term_sets.specs.Complexes.{heldBy, filled, complexTerms};
+ghost use Rattle.term_sets.specs.Answers.{told};
+ghost use Rattle.chains.specs.ChainAnswers.{allInRange, ended, productSteps, multiplySets, conjugateSet, convertSet, scaleSet};
 use complex::Complex;
-use items::Items;
+use items::masks::masks;
 use letters::Kind;
 use refusal::Outcome;
 use refusal::Refusal;
 use term_sets::Term;
 use term_sets::TermSet;
 use term_sets::TermSetAnswer;
-use term_sets::coefficient_at;
 use term_sets::empty_set;
+use term_sets::find;
 use term_sets::is_valid;
-
-// One addition: the set with a coefficient added under a key, or the refusal that came before.
-fn step(c: TermSetAnswer, key: Items, value: Complex) -> TermSetAnswer
-    requires { ⌜ Chain c ⌝ }
-    ensures { λ r. ⌜ ((ts : List Term) → c ≡ after ts → r ≡ after (ts ++ termOf key value ∷ [])) ⌝ }
-{
-    let outcome = c.outcome;
-    let set = c.set;
-    match outcome {
-        Outcome::Refused(why) => TermSetAnswer {
-            outcome: Outcome::Refused(why),
-            set: set,
-        },
-        Outcome::Done => {
-            let sum = coefficient_at(set, key).sum(value);
-            let w = put(set, key, sum);
-            if !w.room {
-                return TermSetAnswer {
-                    outcome: Outcome::Refused(Refusal::SetFull),
-                    set: empty_set(),
-                };
-            }
-            let after = w.set;
-            TermSetAnswer {
-                outcome: Outcome::Done,
-                set: after,
-            }
-        }
-    }
-}
+use term_writing::numbers::close_up;
+use term_writing::numbers::place_of;
+use term_writing::without;
+use terms::MOST_TERMS;
 
 // Whether every coefficient is in range.
 fn all_in_range(s: TermSet) -> bool
@@ -69,74 +43,85 @@ fn all_in_range(s: TermSet) -> bool
     true
 }
 
-// What a chain answers at its end, where `back` stands beside a refusal.
-pub(crate) fn finished(c: TermSetAnswer, back: TermSet) -> TermSetAnswer
-    requires { ⌜ Chain c ⌝ }
-    ensures { λ r. ⌜ ((ts : List Term) → c ≡ after ts → told r ≡ collected back (addAll complexTerms ts [])) ⌝ }
+// The products of all pairs of terms, added up in the places of one set; `back` stands beside a refusal.
+pub(crate) fn multiplied(kind: Kind, s: TermSet, t: TermSet, back: TermSet) -> TermSetAnswer
+    requires { ⌜ (s ≡ filled (heldBy s)) × (t ≡ filled (heldBy t)) ⌝ }
+    ensures { λ r. ⌜ told r ≡ ended back (addAll complexTerms (productSteps (lettersOf kind) (heldBy s) (heldBy t)) []) ⌝ }
 {
-    let outcome = c.outcome;
-    let set = c.set;
-    match outcome {
-        Outcome::Refused(why) => TermSetAnswer {
-            outcome: Outcome::Refused(why),
-            set: back,
-        },
-        Outcome::Done => {
-            if !all_in_range(set) {
+    let mut out = empty_set();
+    let mut numbers = [0u64; MOST_TERMS];
+    let mut left = 0;
+    while left < s.count {
+        let x = s.terms[left];
+        let p = x.items;
+        let a = x.coefficient;
+        left += 1;
+        let mut right = 0;
+        while right < t.count {
+            let y = t.terms[right];
+            let q = y.items;
+            right += 1;
+            let z = merging::multiply::multiply(kind, p, q);
+            let outcome = z.outcome;
+            if let Outcome::Refused(why) = outcome {
                 return TermSetAnswer {
-                    outcome: Outcome::Refused(Refusal::CoefficientOutOfRange),
+                    outcome: Outcome::Refused(why),
                     set: back,
                 };
             }
-            TermSetAnswer {
-                outcome: Outcome::Done,
-                set: set,
+            let key = z.items;
+            let value = y.coefficient
+                .product(complex::unit_of_i(z.power))
+                .product(a);
+            let number = masks(key);
+            let n = out.count;
+            let mut at = place_of(&numbers, n, number);
+            if at < n {
+                let u = out.terms[at];
+                let held = u.items;
+                if !items::same(held, key) {
+                    at = find(out, key);
+                }
+            }
+            let mut old = Complex { re: 0.0, im: 0.0 };
+            if at < n {
+                let u = out.terms[at];
+                old = u.coefficient;
+            }
+            let sum = old.sum(value);
+            if sum.is_zero() {
+                if at < n {
+                    out = without(out, at);
+                    numbers = close_up(numbers, n, at);
+                }
+                continue;
+            }
+            if MOST_TERMS <= at {
+                return TermSetAnswer {
+                    outcome: Outcome::Refused(Refusal::SetFull),
+                    set: back,
+                };
+            }
+            out.terms[at] = Term {
+                items: key,
+                coefficient: sum,
+            };
+            numbers[at] = number;
+            if n <= at {
+                out.count = n + 1;
             }
         }
     }
-}
-
-// The products of one left term with all right terms, added in their order.
-fn add_row(c: TermSetAnswer, kind: Kind, x: Term, t: TermSet) -> TermSetAnswer
-    requires { ⌜ Chain c × (t ≡ filled (heldBy t)) ⌝ }
-    ensures { λ r. ⌜ ((ts : List Term) → c ≡ after ts → r ≡ after (ts ++ rowTerms (lettersOf kind) x (heldBy t))) ⌝ }
-{
-    let p = x.items;
-    let a = x.coefficient;
-    let n = t.count;
-    let mut out = c;
-    let mut j = 0;
-    while j < n {
-        let y = t.terms[j];
-        let q = y.items;
-        let m = merging::multiply::multiply(kind, p, q);
-        let items = m.items;
-        let value = y.coefficient
-            .product(complex::unit_of_i(m.power))
-            .product(a);
-        out = step(out, items, value);
-        j += 1;
+    if !all_in_range(out) {
+        return TermSetAnswer {
+            outcome: Outcome::Refused(Refusal::CoefficientOutOfRange),
+            set: back,
+        };
     }
-    out
-}
-
-// The products of all pairs of terms, added up.
-pub(crate) fn multiplied(kind: Kind, s: TermSet, t: TermSet) -> TermSetAnswer
-    requires { ⌜ (s ≡ filled (heldBy s)) × (t ≡ filled (heldBy t)) ⌝ }
-    ensures { λ r. ⌜ r ≡ after (productTerms (lettersOf kind) (heldBy s) (heldBy t)) ⌝ }
-{
-    let n = s.count;
-    let mut out = TermSetAnswer {
+    TermSetAnswer {
         outcome: Outcome::Done,
-        set: empty_set(),
-    };
-    let mut left = 0;
-    while left < n {
-        let x = s.terms[left];
-        out = add_row(out, kind, x, t);
-        left += 1;
+        set: out,
     }
-    out
 }
 
 // The product of two sets of one kind.
@@ -155,32 +140,42 @@ pub fn multiply(kind: Kind, zeros: bool, s: TermSet, t: TermSet) -> TermSetAnswe
             set: s,
         };
     }
-    finished(multiplied(kind, s, t), s)
+    multiplied(kind, s, t, s)
 }
 
-// The conjugates of all terms, added up.
-fn conjugated(kind: Kind, s: TermSet) -> TermSetAnswer
-    requires { ⌜ s ≡ filled (heldBy s) ⌝ }
-    ensures { λ r. ⌜ r ≡ after (conjugates (lettersOf kind) (heldBy s)) ⌝ }
+// Terms whose keys differ, added to nothing: each coefficient is added to zero, and zeros are not held; `back` stands beside a refusal.
+pub(crate) fn collected(s: TermSet, back: TermSet) -> TermSetAnswer
+    requires { ⌜ (s ≡ filled (heldBy s)) × (each (λ t ts. not (has (keyed complexTerms (t .items)) ts)) (heldBy s) ≡ true) ⌝ }
+    ensures { λ r. ⌜ told r ≡ ended back (addAll complexTerms (map gives (heldBy s)) []) ⌝ }
 {
-    let n = s.count;
-    let mut out = TermSetAnswer {
-        outcome: Outcome::Done,
-        set: empty_set(),
-    };
+    let zero = Complex { re: 0.0, im: 0.0 };
+    let mut out = empty_set();
     let mut i = 0;
-    while i < n {
+    while i < s.count {
         let x = s.terms[i];
-        let p = x.items;
-        let z = phases::conjugate(kind, p);
-        let items = z.items;
-        let value = x.coefficient
-            .conjugate()
-            .product(complex::unit_of_i(z.power));
-        out = step(out, items, value);
+        let key = x.items;
+        let sum = zero.sum(x.coefficient);
         i += 1;
+        if sum.is_zero() {
+            continue;
+        }
+        let n = out.count;
+        out.terms[n] = Term {
+            items: key,
+            coefficient: sum,
+        };
+        out.count = n + 1;
     }
-    out
+    if !all_in_range(out) {
+        return TermSetAnswer {
+            outcome: Outcome::Refused(Refusal::CoefficientOutOfRange),
+            set: back,
+        };
+    }
+    TermSetAnswer {
+        outcome: Outcome::Done,
+        set: out,
+    }
 }
 
 // The conjugate transpose of a set.
@@ -193,30 +188,23 @@ pub fn conjugate(kind: Kind, zeros: bool, s: TermSet) -> TermSetAnswer
             set: s,
         };
     }
-    finished(conjugated(kind, s), s)
-}
-
-// All terms in letters of the other kind, added up.
-fn converted(kind: Kind, s: TermSet) -> TermSetAnswer
-    requires { ⌜ s ≡ filled (heldBy s) ⌝ }
-    ensures { λ r. ⌜ r ≡ after (conversions (lettersOf kind) (lettersOf (other kind)) (heldBy s)) ⌝ }
-{
     let n = s.count;
-    let mut out = TermSetAnswer {
-        outcome: Outcome::Done,
-        set: empty_set(),
-    };
+    let mut out = s;
     let mut i = 0;
     while i < n {
         let x = s.terms[i];
         let p = x.items;
-        let z = phases::convert(kind, p);
+        let z = phases::conjugate(kind, p);
         let items = z.items;
-        let value = x.coefficient.product(complex::unit_of_i(z.power));
-        out = step(out, items, value);
+        out.terms[i] = Term {
+            items: items,
+            coefficient: x.coefficient
+                .conjugate()
+                .product(complex::unit_of_i(z.power)),
+        };
         i += 1;
     }
-    out
+    collected(out, s)
 }
 
 // A set in letters of the other kind.
@@ -229,28 +217,21 @@ pub fn convert(kind: Kind, zeros: bool, s: TermSet) -> TermSetAnswer
             set: empty_set(),
         };
     }
-    finished(converted(kind, s), empty_set())
-}
-
-// The same keys with every coefficient times a number.
-fn scaled(s: TermSet, value: Complex) -> TermSet
-    requires { ⌜ s ≡ filled (heldBy s) ⌝ }
-    ensures { λ r. ⌜ r ≡ filled (scaledTerms complexTerms complexProducts value (heldBy s)) ⌝ }
-{
     let n = s.count;
     let mut out = s;
     let mut i = 0;
     while i < n {
         let x = s.terms[i];
-        let items = x.items;
-        let old = x.coefficient;
+        let p = x.items;
+        let z = phases::convert(kind, p);
+        let items = z.items;
         out.terms[i] = Term {
             items: items,
-            coefficient: old.product(value),
+            coefficient: x.coefficient.product(complex::unit_of_i(z.power)),
         };
         i += 1;
     }
-    out
+    collected(out, empty_set())
 }
 
 // Every coefficient times a number; terms that become zero stay.
@@ -269,7 +250,18 @@ pub fn scale(s: TermSet, value: Complex) -> TermSetAnswer
             set: s,
         };
     }
-    let out = scaled(s, value);
+    let n = s.count;
+    let mut out = s;
+    let mut i = 0;
+    while i < n {
+        let x = s.terms[i];
+        let items = x.items;
+        out.terms[i] = Term {
+            items: items,
+            coefficient: x.coefficient.product(value),
+        };
+        i += 1;
+    }
     if !all_in_range(out) {
         return TermSetAnswer {
             outcome: Outcome::Refused(Refusal::CoefficientOutOfRange),
@@ -280,24 +272,4 @@ pub fn scale(s: TermSet, value: Complex) -> TermSetAnswer
         outcome: Outcome::Done,
         set: out,
     }
-}
-
-// The terms of a set, added one after the other.
-pub(crate) fn added_again(s: TermSet) -> TermSetAnswer
-    requires { ⌜ s ≡ filled (heldBy s) ⌝ }
-    ensures { λ r. ⌜ r ≡ after (heldBy s) ⌝ }
-{
-    let n = s.count;
-    let mut out = TermSetAnswer {
-        outcome: Outcome::Done,
-        set: empty_set(),
-    };
-    let mut i = 0;
-    while i < n {
-        let x = s.terms[i];
-        let p = x.items;
-        out = step(out, p, x.coefficient);
-        i += 1;
-    }
-    out
 }

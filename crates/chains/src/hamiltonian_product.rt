@@ -2,8 +2,7 @@
 ghost use mathlib.Core.Path.{_≡_};
 ghost use Rattle.term_sets.specs.Answers.{told};
 ghost use Rattle.chains.specs.HamiltonianProducts.{multiplyReals, intoOperator};
-use crate::chain::added_again;
-use crate::chain::finished;
+use crate::chain::collected;
 use crate::chain::multiplied;
 use hamiltonians::pauli_hamiltonian::PauliHamiltonian;
 use hamiltonians::pauli_hamiltonian::complex_terms;
@@ -31,7 +30,7 @@ pub fn multiply(left: PauliHamiltonian, right: PauliHamiltonian) -> TermSetAnswe
     }
     let s = complex_terms(left);
     let t = complex_terms(right);
-    finished(multiplied(Kind::Pauli, s, t), empty_set())
+    multiplied(Kind::Pauli, s, t, empty_set())
 }
 
 // A Hamiltonian as a complex operator.
@@ -45,5 +44,5 @@ pub fn convert(hamiltonian: PauliHamiltonian) -> TermSetAnswer
         };
     }
     let s = complex_terms(hamiltonian);
-    finished(added_again(s), empty_set())
+    collected(s, empty_set())
 }

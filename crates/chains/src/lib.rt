@@ -1,4 +1,3 @@
-// Terms written into a set of complex terms: one set or added, and the chains of additions that multiplying, conjugating and converting are.
+// The chains of additions that multiplying, conjugating and converting sets of complex terms are, and scaling.
 pub mod chain;
 pub mod hamiltonian_product;
-pub mod writing;

@@ -15,8 +15,8 @@ use Rattle.terms.specs.Keyed.{has, each}
 use Rattle.terms.specs.Kind.{Terms}
 use Rattle.terms.specs.Setting.{mostTerms, keyed, write, hasRoom}
 use Rattle.terms.proofs.KeyedLaws.{each-cons, each-head, each-tail, nowhere, has-false}
-use Rattle.terms.specs.Runs.{run}
-use Rattle.terms.proofs.RunLaws.{run-append}
+use Rattle.condition3.specs.Runs.{run}
+use Rattle.condition3.proofs.RunLaws.{run-append}
 use Rattle.terms.specs.Places.{goodTerm}
 use Rattle.terms.proofs.GoodLaws.{good-key, good-coefficient, good-different, good-keys, good-coefficients, good-differents}
 use Rattle.terms.proofs.SettingLaws.{Alike, different, write-other}
@@ -33,7 +33,7 @@ use Rattle.terms.proofs.ValidSetLaws as valid_sets
 use Rattle.noise_sets.specs.Pairs.{pairTerms}
 use Rattle.noise_sets.specs.Pairs as pairs
 use Rattle.noise_sets.specs.Answers.{validKey, emptySide}
-use Rattle.noise_chains.specs.ChainAnswers.{setPair}
+use Rattle.noise_writing.specs.WritingAnswers.{setPair}
 use Rattle.noise_sets.specs.declared.NoiseTerm.{NoiseTerm}
 use Rattle.noise_sets.specs.declared.NoiseSet.{NoiseSet}
 use Rattle.noise_sets.proofs.SetLaws.{noiseSets}

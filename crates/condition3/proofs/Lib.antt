@@ -1,3 +1,4 @@
+pub mod RunLaws
 pub mod LineLaws
 pub mod AnswerLaws
 pub mod WrittenLines

@@ -10,6 +10,7 @@ use mathlib.Core.Option.{Option, none, some}
 use lib.Dec.{ltb}
 use lib.ListN.{length, length-map, length-append}
 use borrow.Author.Tests.{lt-ltb, le-ltb, ltb-true, ltb-false}
+use Rattle.refusal.specs.Refusals.{Said, gives, refuses}
 use Rattle.complex.specs.Complex.{plusZero, sumOf, isZero}
 use Rattle.complex.specs.declared.Complex.{Complex}
 use Rattle.terms.specs.Keyed.{held, has, written, struck, headOr}
@@ -127,11 +128,11 @@ module _ {K N : Type 0} (S : Terms K N) (parts : N → Complex) (F : Faithful S 
   -- ---- a chain of additions
 
   -- a chain's terms as lines
-  abbrev pub linesIf : Option (List (S .Term)) → Option (List (Line K))
-  linesIf none = none
-  linesIf (some l) = some (lines l)
+  abbrev pub linesIf : Said (List (S .Term)) → Option (List (Line K))
+  linesIf (gives l) = some (lines l)
+  linesIf (refuses n s) = none
 
-  pub lines-addAll : (ts l : List (S .Term)) → length l ≤ mostTerms → linesIf (addAll S ts l) ≡ addLines (S .same) (lines ts) (lines l)
+  pub lines-addAll : (ts l : List (S .Term)) → length l ≤ mostTerms → linesIf (addAll S (map gives ts) l) ≡ addLines (S .same) (lines ts) (lines l)
   unfolding addAll addLines
   lines-addAll [] l few = refl
   lines-addAll (t ∷ ts) l few =
@@ -147,7 +148,7 @@ module _ {K N : Type 0} (S : Terms K N) (parts : N → Complex) (F : Faithful S 
       m : List (S .Term)
       m = write S k a l
 
-      go : (b : Bool) → hasRoom S k a l ≡ b → (hasRoom S k a l ≡ true → linesIf (addAll S ts m) ≡ addLines (S .same) (lines ts) (lines m))
-          → linesIf (cond b (addAll S ts m) none) ≡ cond (ltb mostTerms (length (lines m))) none (addLines (S .same) (lines ts) (lines m))
+      go : (b : Bool) → hasRoom S k a l ≡ b → (hasRoom S k a l ≡ true → linesIf (addAll S (map gives ts) m) ≡ addLines (S .same) (lines ts) (lines m))
+          → linesIf (cond b (addAll S (map gives ts) m) (refuses 6 [])) ≡ cond (ltb mostTerms (length (lines m))) none (addLines (S .same) (lines ts) (lines m))
       go true e h = h e ∙ ap (λ b. cond b none (addLines (S .same) (lines ts) (lines m))) (ap not (sym e) ∙ full-is k a l few)
       go false e h = ap (λ b. cond b none (addLines (S .same) (lines ts) (lines m))) (ap not (sym e) ∙ full-is k a l few)

@@ -4,7 +4,7 @@ use mathlib.Core.Path.{_≡_, refl, ap, _∙_}
 use mathlib.Core.Bool.{true}
 use mathlib.Core.List.{List, [], _∷_}
 use Rattle.items.specs.Record.{sameItems, sameKey}
-use Rattle.terms.specs.Runs.{run}
+use Rattle.condition3.specs.Runs.{run}
 use Rattle.hamiltonians.specs.Reals as reals
 use Rattle.term_sets.specs.Complexes as operators
 use Rattle.hamiltonians.proofs.RealValidLaws as real_valid

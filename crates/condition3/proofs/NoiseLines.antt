@@ -3,8 +3,9 @@
 use Prim.Native.Nat.{_≤_}
 use mathlib.Core.Path.{_≡_, refl, sym, ap, _∙_}
 use mathlib.Core.Bool.{Bool, true, false, not, _&&_, _||_, cond, true≢false}
-use mathlib.Core.List.{List, [], _∷_, _++_}
-use mathlib.Core.Option.{Option, none, some}
+use mathlib.Core.List.{List, [], _∷_, _++_, map}
+use mathlib.Core.Option.{Option, some}
+use Rattle.refusal.specs.Refusals.{Said, gives, refuses}
 use lib.Dec.{eqb}
 use lib.ListN.{length}
 use Rattle.items.proofs.SameLaws.{same-key-equal}
@@ -24,14 +25,15 @@ use Rattle.term_sets.specs.declared.Term.{Term}
 use Rattle.term_sets.specs.declared.TermSet.{TermSet}
 use Rattle.noise_sets.specs.Pairs.{Key, pairTerms, isEmpty, heldBy, goodCoefficient, validSet}
 use Rattle.noise_sets.specs.Answers.{validKey, emptySide}
-use Rattle.noise_chains.specs.ChainAnswers.{setPair, addPair, addFullOperators, allInRange, collected}
+use Rattle.noise_writing.specs.WritingAnswers.{setPair, addPair, allInRange, ended}
+use Rattle.full_operators.specs.FullAnswers.{addFullOperators}
 use Rattle.noise_sets.specs.declared.NoiseTerm.{NoiseTerm}
 use Rattle.noise_sets.specs.declared.NoiseSet.{NoiseSet}
 use Rattle.terms.proofs.FilledLaws.{held-filled}
 use Rattle.noise_sets.proofs.SetLaws.{noiseSets}
 use Rattle.terms.proofs.ValidSetLaws as valid_sets
 use Rattle.noise_sets.proofs.ValidLaws.{validNoiseSets}
-use Rattle.noise_chains.proofs.NoiseValidAnswers as answers
+use Rattle.noise.proofs.NoiseValidAnswers as answers
 use Rattle.condition3.specs.ReferenceModel.{Line, writeLine, addLine, addLines, unlessFull, linesInRange, unlessRefused, lawfulPair, lawfulOperators, fullLines}
 use Rattle.condition3.proofs.LineLaws.{lineOf, linesOf, Faithful, linesIf, lines-addAll}
 use Rattle.condition3.proofs.AnswerLaws.{past, unless, either}
@@ -129,7 +131,7 @@ module _ (s : NoiseSet) (l r : TermSet) (z : Complex) (v : validSet s ≡ true) 
   abbrev lines : Option (List (Line Key))
   lines = addLines sameKey (fullLines z (operators.heldBy l) (operators.heldBy r)) (noiseLines s)
 
-  lines-are : linesIf pairTerms itself pairs-faithful (addAll pairTerms terms (heldBy s)) ≡ lines
+  lines-are : linesIf pairTerms itself pairs-faithful (addAll pairTerms (map gives terms) (heldBy s)) ≡ lines
   lines-are = lines-addAll pairTerms itself pairs-faithful terms (heldBy s) (few s v) ∙ ap (λ m. addLines sameKey m (noiseLines s)) (full-lines z (operators.heldBy l) (operators.heldBy r))
 
   abbrev lawful : Bool
@@ -159,10 +161,10 @@ module _ (s : NoiseSet) (l r : TermSet) (z : Complex) (v : validSet s ≡ true) 
   good-operators a b c d = and-true (and-true a b) (and-true (ap not c) d)
 
   -- the chain's end
-  chain-lines : lawful ≡ true → (o : Option (List NoiseTerm)) → noiseLines (collected s o .1) ≡ unlessRefused lawful (linesIf pairTerms itself pairs-faithful o) (noiseLines s)
-  unfolding entries.collected entries.ended unlessRefused
-  chain-lines g none = refl
-  chain-lines g (some m) =
+  chain-lines : lawful ≡ true → (o : Said (List NoiseTerm)) → noiseLines (ended s o .1) ≡ unlessRefused lawful (linesIf pairTerms itself pairs-faithful o) (noiseLines s)
+  unfolding entries.ended unlessRefused
+  chain-lines g (refuses n k) = refl
+  chain-lines g (gives m) =
       past (λ x. noiseLines x ≡ unlessRefused lawful (some (linesOf pairTerms itself m)) (noiseLines s)) (allInRange m) _ _ _ _
       (λ e. sym (range-refused lawful (noiseLines s) (linesOf pairTerms itself m) (range m ∙ e)))
       (λ e. ap (linesOf pairTerms itself) (held-filled noiseSets m) ∙ sym (call-accepted lawful (noiseLines s) (linesOf pairTerms itself m) g (range m ∙ e)))
@@ -181,7 +183,7 @@ module _ (s : NoiseSet) (l r : TermSet) (z : Complex) (v : validSet s ≡ true) 
       past P (operators.validSet false r) _ _ _ _ (λ e. sym (arguments-refused lawful (noiseLines s) (bad-right e) lines)) (λ b.
       unless P empty _ _ _ _ (λ e. sym (arguments-refused lawful (noiseLines s) (no-terms e) lines)) (λ c.
       past P (inRange z) _ _ _ _ (λ e. sym (arguments-refused lawful (noiseLines s) (bad-number e) lines)) (λ d.
-      chain-lines (good-operators a b c d) (addAll pairTerms terms (heldBy s)) ∙ ap (λ o. unlessRefused lawful o (noiseLines s)) lines-are)))))
+      chain-lines (good-operators a b c d) (addAll pairTerms (map gives terms) (heldBy s)) ∙ ap (λ o. unlessRefused lawful o (noiseLines s)) lines-are)))))
     where
       P : NoiseSet → Type 0
       P x = noiseLines x ≡ unlessRefused lawful lines (noiseLines s)

@@ -14,7 +14,7 @@ use Rattle.items.specs.Lists.{padded}
 use Rattle.items.specs.Record.{capacity, inShape, placeValid, valid, reach}
 use Rattle.items.specs.declared.Items.{Items}
 use Rattle.terms.specs.Keyed.{each}
-use Rattle.terms.specs.Runs.{run}
+use Rattle.condition3.specs.Runs.{run}
 use Rattle.condition3.specs.Calls.{Call, setHamiltonian, setNoise}
 use Rattle.condition3.specs.ReferenceModel.{realPart, replaceOrAppend, writeLine, unlessFull, linesInRange, unlessRefused, lawfulTerm, lawfulPair, noted, modelAfter}
 use Rattle.condition3.specs.Condition3.{Premises}

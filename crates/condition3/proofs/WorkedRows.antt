@@ -17,7 +17,7 @@ use Rattle.complex.specs.Wholes.{bothWhole, partsOf}
 use Rattle.items.specs.Lists.{support, padded, sameList}
 use Rattle.items.specs.Record.{placeValid, inShape, valid, lookup, letterAt, reach, recordOf, sameItems, emptyProduct}
 use Rattle.terms.specs.Keyed.{held, has, written, each, concatMap}
-use Rattle.terms.specs.Runs.{run}
+use Rattle.condition3.specs.Runs.{run}
 use Rattle.terms.specs.Setting.{write, hasRoom}
 use Rattle.terms.specs.Places.{goodTerm, validPlaces}
 use Rattle.master_equation.specs.Equation.{𝟚}
@@ -28,7 +28,7 @@ use Rattle.exact_sums.specs.ExactSums.{whole}
 use Rattle.hamiltonians.specs.Reals as reals
 use Rattle.hamiltonians.specs.RealAnswers.{setReal}
 use Rattle.noise_sets.specs.Pairs as pairs
-use Rattle.noise_chains.specs.ChainAnswers.{setPair}
+use Rattle.noise_writing.specs.WritingAnswers.{setPair}
 use Rattle.open_system.specs.Grouping.{validSystem, groupAnswer}
 use Rattle.exact_rows.specs.ExactRows.{gaussOf, exactContributions, wholeTerms, unlessNotWhole, exactRowOfTerms, exactRow}
 use Rattle.condition3.specs.Calls.{called, setsAfter}

@@ -5,14 +5,15 @@ use mathlib.Core.List.{List, [], _++_, map}
 use lib.Ieee.{Float}
 use Rattle.complex.specs.declared.Complex.{Complex}
 use Rattle.items.specs.declared.Items.{Items}
-use Rattle.terms.specs.Runs.{run}
+use Rattle.condition3.specs.Runs.{run}
 use Rattle.hamiltonians.specs.Reals as reals
 use Rattle.hamiltonians.specs.RealAnswers.{setReal, addReal}
 use Rattle.term_sets.specs.declared.TermSet.{TermSet}
 use Rattle.hamiltonians.specs.declared.pauli_hamiltonian.PauliHamiltonian.{PauliHamiltonian}
 use Rattle.noise_sets.specs.Pairs.{Key}
 use Rattle.noise_sets.specs.Pairs as pairs
-use Rattle.noise_chains.specs.ChainAnswers.{setPair, addPair, addFullOperators}
+use Rattle.noise_writing.specs.WritingAnswers.{setPair, addPair}
+use Rattle.full_operators.specs.FullAnswers.{addFullOperators}
 use Rattle.noise_sets.specs.declared.NoiseSet.{NoiseSet}
 
 -- a call: "its name, which of the two sets it is on and its other arguments", as the entry takes them, valid or not

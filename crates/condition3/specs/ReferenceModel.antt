@@ -11,7 +11,7 @@ use Rattle.complex.specs.declared.Complex.{Complex}
 use Rattle.items.specs.Record.{valid, sameItems, sameKey}
 use Rattle.items.specs.declared.Items.{Items}
 use Rattle.terms.specs.Keyed.{concatMap}
-use Rattle.terms.specs.Runs.{run}
+use Rattle.condition3.specs.Runs.{run}
 use Rattle.terms.specs.Setting.{mostTerms}
 use Rattle.term_sets.specs.Complexes as operators
 use Rattle.term_sets.specs.declared.Term.{Term}

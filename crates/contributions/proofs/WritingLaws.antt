@@ -29,7 +29,7 @@ use Rattle.row_entries.proofs.EntryLaws.{of-kind}
 use Rattle.contributions.proofs.ContributionLaws.{operator-terms, commutator-terms, noise-terms, commutator-contributes, noise-contributes}
 use Rattle.contributions.proofs.ValueLaws.{written-entries, commutator-count, noise-count}
 use Rattle.term_sets.specs.declared.Term.{Term}
-use Rattle.hamiltonians.proofs.CopyLaws.{take-held}
+use Rattle.terms.proofs.CopyLaws.{take-held}
 use Rattle.noise_sets.specs.declared.NoiseTerm.{NoiseTerm}
 use Rattle.outside_sites.specs.Accepted.{Accepted}
 use Rattle.contributions.specs.TermContributions.{operatorPart, commutatorPart, noisePart}

@@ -1,4 +1,3 @@
-pub mod CopyLaws
 pub mod RealSetLaws
 pub mod RealValidLaws
 pub mod RealMaskLaws

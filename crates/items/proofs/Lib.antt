@@ -6,3 +6,4 @@ pub mod Canonical
 pub mod Cursor
 pub mod MaskLaws
 pub mod MaskKeys
+pub mod ScanLaws

@@ -1,4 +1,3 @@
-pub mod Steps
+pub mod Places
 pub mod ProductAnswers
 pub mod SiteAnswers
-pub mod Targets

@@ -1,5 +1,4 @@
-// Records of products made by bringing places together: a site set or read, two products multiplied or joined, letters moved.
+// Records of products made by bringing places together: a site set or read, two products multiplied or joined.
 mod merge;
 pub mod multiply;
-pub mod remap;
 pub mod site;

@@ -5,58 +5,114 @@ ghost use Prim.Native.Nat.{_<_, suc, _≤_, max};
 ghost use Rattle.items.specs.Lists.{at};
 ghost use Rattle.items.specs.Record.{valid, letterAt, update, reach, recordOf, highestSite};
 ghost use Rattle.letters.specs.Answers.{highestLetter};
+ghost use Rattle.merging.specs.Places.{placeOf};
 ghost use Rattle.merging.specs.SiteAnswers.{saidGot, getAnswer, setAnswer};
 ghost use Rattle.items.specs.Answers.{told};
-use crate::merge::merged;
-use crate::merge::pushed;
+use crate::merge::next_site;
 use items::Got;
 use items::HIGHEST_SITE;
 use items::Items;
 use items::ItemsAnswer;
 use items::Site;
-use items::empty;
 use items::is_valid;
 use items::wide;
 use letters::HIGHEST_LETTER;
-use letters::Kind;
 use refusal::Outcome;
 use refusal::Refusal;
 
-// The letter at place i, 0 where it stands on the site.
-fn kept_letter(p: Items, i: usize, site: Site) -> u8
-    requires { ⌜ (valid p ≡ true) × (i < p .count) ⌝ }
-    ensures { λ r. ⌜ r ≡ update (letterAt p) site 0 (at (p .sites) i) ⌝ }
-{
-    if p.sites[i] == site {
-        return 0;
-    }
-    p.letters[i]
-}
-
-// p with a site free.
-fn without(p: Items, site: Site) -> Items
+// The first place whose site is not below the given one, or the count.
+fn place_of(p: Items, site: Site) -> usize
     requires { ⌜ valid p ≡ true ⌝ }
-    ensures { λ r. ⌜ r ≡ recordOf (update (letterAt p) site 0) (reach p) ⌝ }
+    ensures { λ r. ⌜ r ≡ placeOf p site ⌝ }
 {
     let count = p.count;
-    let mut out = empty();
     let mut i: usize = 0;
     while i < count {
-        let letter = kept_letter(p, i, site);
-        out = pushed(out, p.sites[i], letter);
+        if site <= p.sites[i] {
+            return i;
+        }
         i += 1;
     }
-    out
+    i
 }
 
-// p with a letter on a site: the site is freed, and the letter's own product multiplied in.
-pub(crate) fn put(p: Items, site: Site, letter: u8) -> Items
+// p with a letter on a free site: the places from the site's own on go up by one, the last one first.
+fn inserted(p: Items, place: usize, site: Site, letter: u8) -> Items
+    requires { ⌜ (valid p ≡ true) × (site ≤ highestSite) × (0 < letter) × (letter ≤ highestLetter) × (place ≡ placeOf p site) × (letterAt p site ≡ 0) ⌝ }
+    ensures { λ r. ⌜ r ≡ recordOf (update (letterAt p) site letter) (max (reach p) (suc site)) ⌝ }
+{
+    let count = p.count;
+    let mut sites = p.sites;
+    let mut letters = p.letters;
+    let mut i = count;
+    while place < i {
+        sites[i] = sites[i - 1];
+        letters[i] = letters[i - 1];
+        i -= 1;
+    }
+    sites[place] = site;
+    letters[place] = letter;
+    Items {
+        count: count + 1,
+        sites,
+        letters,
+    }
+}
+
+// p without one of its places: those after it go down by one, and zeros stand where the last one stood.
+fn removed(p: Items, place: usize) -> Items
+    requires { ⌜ (valid p ≡ true) × (place < p .count) ⌝ }
+    ensures { λ r. ⌜ r ≡ recordOf (update (letterAt p) (at (p .sites) place) 0) (reach p) ⌝ }
+{
+    let last = p.count - 1;
+    let mut sites = p.sites;
+    let mut letters = p.letters;
+    let mut i = place;
+    while i < last {
+        sites[i] = sites[i + 1];
+        letters[i] = letters[i + 1];
+        i += 1;
+    }
+    sites[last] = 0;
+    letters[last] = 0;
+    Items {
+        count: last,
+        sites,
+        letters,
+    }
+}
+
+// p with another letter at one of its places.
+fn replaced(p: Items, place: usize, letter: u8) -> Items
+    requires { ⌜ (valid p ≡ true) × (place < p .count) × (0 < letter) × (letter ≤ highestLetter) ⌝ }
+    ensures { λ r. ⌜ r ≡ recordOf (update (letterAt p) (at (p .sites) place) letter) (reach p) ⌝ }
+{
+    let sites = p.sites;
+    let mut letters = p.letters;
+    letters[place] = letter;
+    Items {
+        count: p.count,
+        sites,
+        letters,
+    }
+}
+
+// p with a letter on a site; the identity frees it.
+fn put(p: Items, site: Site, letter: u8) -> Items
     requires { ⌜ (valid p ≡ true) × (site ≤ highestSite) × (letter ≤ highestLetter) ⌝ }
     ensures { λ r. ⌜ r ≡ recordOf (update (letterAt p) site letter) (max (reach p) (suc site)) ⌝ }
 {
-    let rest = without(p, site);
-    let one = pushed(empty(), site, letter);
-    merged(Kind::Pauli, rest, one).items
+    let place = place_of(p, site);
+    if next_site(p.count, &p.sites, place) == wide(site) {
+        if 0 < letter {
+            return replaced(p, place, letter);
+        }
+        return removed(p, place);
+    }
+    if 0 < letter {
+        return inserted(p, place, site, letter);
+    }
+    p
 }
 
 pub fn get(p: Items, site: Site) -> Got

@@ -1,1 +1,3 @@
 pub mod KindReadingLaws
+pub mod NoiseValidAnswers
+pub mod NoiseTheorems

@@ -5,7 +5,9 @@ ghost use Rattle.items.specs.Lists.{at};
 ghost use Rattle.term_sets.specs.Answers.{saidGet};
 ghost use Rattle.noise_sets.specs.Pairs.{filled, validSet};
 ghost use Rattle.noise_sets.specs.Answers.{getPair};
-ghost use Rattle.noise_chains.specs.ChainAnswers.{setPair, addPair, addFullOperators, remapSet};
+ghost use Rattle.noise_writing.specs.WritingAnswers.{setPair, addPair};
+ghost use Rattle.full_operators.specs.FullAnswers.{addFullOperators};
+ghost use Rattle.noise_remapping.specs.RemapAnswers.{remapSet};
 ghost use Rattle.noise.specs.Kinds.{toldNoiseSet, toldNoise};
 use complex::Complex;
 use items::SITE_COUNT;
@@ -70,7 +72,7 @@ impl PauliLindbladNoiseOperator {
         let s = self.set;
         let p = left.items;
         let q = right.items;
-        let a = noise_chains::writing::set(s, p, q, value);
+        let a = noise_writing::set(s, p, q, value);
         let answer = a.answer;
         let set = a.set;
         NoiseOperatorAfterSet {
@@ -91,7 +93,7 @@ impl PauliLindbladNoiseOperator {
         let s = self.set;
         let p = left.items;
         let q = right.items;
-        let a = noise_chains::writing::add(s, p, q, value);
+        let a = noise_writing::add(s, p, q, value);
         let outcome = a.outcome;
         let set = a.set;
         NoiseOperatorAnswer {
@@ -110,7 +112,7 @@ impl PauliLindbladNoiseOperator {
         ensures { λ r. ⌜ toldNoise r ≡ addFullOperators (self .set) (left .terms) (right .terms) value ⌝ }
     {
         let s = self.set;
-        let a = noise_chains::full::add_full(s, left, right, value);
+        let a = full_operators::add_full(s, left, right, value);
         let outcome = a.outcome;
         let set = a.set;
         NoiseOperatorAnswer {
@@ -124,7 +126,7 @@ impl PauliLindbladNoiseOperator {
         ensures { λ r. ⌜ toldNoise r ≡ remapSet (at targets) (self .set) ⌝ }
     {
         let s = self.set;
-        let a = noise_chains::remap::remap_qubits(s, targets);
+        let a = noise_remapping::remap_qubits(s, targets);
         let outcome = a.outcome;
         let set = a.set;
         NoiseOperatorAnswer {

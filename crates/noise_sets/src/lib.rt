@@ -63,7 +63,7 @@ pub fn empty_set() -> NoiseSet
 }
 
 // Whether a term has a key.
-fn has_key(t: NoiseTerm, left: Items, right: Items) -> bool
+pub fn has_key(t: NoiseTerm, left: Items, right: Items) -> bool
     ensures { λ r. ⌜ r ≡ keyed pairTerms (left, right) t ⌝ }
 {
     let p = t.left;

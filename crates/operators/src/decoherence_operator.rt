@@ -5,7 +5,8 @@ ghost use mathlib.Core.List.{[]};
 ghost use Rattle.letters.specs.Matrices.{pauli, decoherence};
 ghost use Rattle.term_sets.specs.Complexes.{filled, validSet};
 ghost use Rattle.term_sets.specs.Answers.{saidGet, getTerm};
-ghost use Rattle.chains.specs.ChainAnswers.{setTerm, addTerm, multiplySets, conjugateSet, convertSet};
+ghost use Rattle.term_writing.specs.WritingAnswers.{setTerm, addTerm};
+ghost use Rattle.chains.specs.ChainAnswers.{multiplySets, conjugateSet, convertSet};
 ghost use Rattle.operators.specs.Kinds.{toldDecoherenceSet, toldDecoherence};
 use crate::pauli_operator::PauliOperator;
 use complex::Complex;
@@ -62,7 +63,7 @@ impl DecoherenceOperator {
     {
         let s = self.terms;
         let k = key.items;
-        let a = chains::writing::set(false, s, k, value);
+        let a = term_writing::set(false, s, k, value);
         let answer = a.answer;
         let set = a.set;
         DecoherenceOperatorAfterSet {
@@ -81,7 +82,7 @@ impl DecoherenceOperator {
     {
         let s = self.terms;
         let k = key.items;
-        let a = chains::writing::add(false, s, k, value);
+        let a = term_writing::add(false, s, k, value);
         let outcome = a.outcome;
         let set = a.set;
         DecoherenceOperatorAnswer {

@@ -5,7 +5,8 @@ ghost use mathlib.Core.List.{[]};
 ghost use Rattle.letters.specs.Matrices.{pauli};
 ghost use Rattle.term_sets.specs.Complexes.{filled, validSet};
 ghost use Rattle.term_sets.specs.Answers.{saidGet, getTerm};
-ghost use Rattle.chains.specs.ChainAnswers.{setTerm, addTerm, multiplySets, conjugateSet, scaleSet};
+ghost use Rattle.term_writing.specs.WritingAnswers.{setTerm, addTerm};
+ghost use Rattle.chains.specs.ChainAnswers.{multiplySets, conjugateSet, scaleSet};
 ghost use Rattle.chains.specs.HamiltonianProducts.{multiplyReals, intoOperator};
 ghost use Rattle.operators.specs.Kinds.{toldPauliSet, toldPauli};
 use complex::Complex;
@@ -63,7 +64,7 @@ impl PauliOperator {
     {
         let s = self.terms;
         let k = key.items;
-        let a = chains::writing::set(true, s, k, value);
+        let a = term_writing::set(true, s, k, value);
         let answer = a.answer;
         let set = a.set;
         PauliOperatorAfterSet {
@@ -78,7 +79,7 @@ impl PauliOperator {
     {
         let s = self.terms;
         let k = key.items;
-        let a = chains::writing::add(true, s, k, value);
+        let a = term_writing::add(true, s, k, value);
         let outcome = a.outcome;
         let set = a.set;
         PauliOperatorAnswer {

@@ -16,7 +16,7 @@ use Rattle.terms.specs.Setting.{mostTerms}
 use Rattle.terms.proofs.KeyedLaws.{by-test, concatMap-nil, concatMap-cons}
 use Rattle.rows.specs.Calls.{outside}
 use Rattle.term_sets.specs.declared.Term.{Term}
-use Rattle.hamiltonians.proofs.CopyLaws.{take-held}
+use Rattle.terms.proofs.CopyLaws.{take-held}
 use Rattle.noise_sets.specs.declared.NoiseTerm.{NoiseTerm}
 use Rattle.term_sets.specs.Complexes.{itemsOf}
 use Rattle.noise_sets.specs.Pairs.{sides}

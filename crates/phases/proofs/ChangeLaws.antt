@@ -17,6 +17,7 @@ use Rattle.letters.proofs.TableLaws.{closed, converts}
 use Rattle.letters.proofs.Codes.{conjugated-plain, converted-plain}
 use Rattle.items.specs.Lists.{at}
 use Rattle.items.specs.Record.{valid, letterAt, reach, recordOf}
+use Rattle.phases.specs.Answers.{conjugateAnswer, convertAnswer}
 use Rattle.phases.specs.Changes.{changed}
 use Rattle.items.specs.declared.Items.{Items}
 use Rattle.phases.specs.declared.Change.{Change}
@@ -143,3 +144,12 @@ changed-record change p v =
 pub changed-answer : (change : Change) (p : Items) (power : ℕ) → valid p ≡ true → power ≡ total (powerAt change p) (reach p) % 4
     → _≡_ {A = Said Unit × (ℕ × Items)} (done, (power, p)) (done, (total (powerAt change p) (reach p) % 4, recordOf (λ s. letterOf (changed change (letterAt p s))) (reach p)))
 changed-answer change p power v e = ap₂ (λ k q. (done, (k, q))) e (sym (changed-record change p v))
+
+-- so the record of an answer on a valid product is the product
+pub conjugate-record : (kind : Kind) (p : Items) → valid p ≡ true → conjugateAnswer (lettersOf kind) p .1 .1 ≡ p
+unfolding conjugateAnswer
+conjugate-record kind p v = rw v (changed-record (Conjugate kind) p v)
+
+pub convert-record : (kind : Kind) (p : Items) → valid p ≡ true → convertAnswer (lettersOf kind) (lettersOf (other kind)) p .1 .1 ≡ p
+unfolding convertAnswer
+convert-record kind p v = rw v (changed-record (Convert kind) p v)

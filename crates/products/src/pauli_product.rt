@@ -6,7 +6,7 @@ ghost use Rattle.items.specs.Lists.{at};
 ghost use Rattle.items.specs.Record.{emptyProduct};
 ghost use Rattle.merging.specs.SiteAnswers.{saidGot, getAnswer, setAnswer};
 ghost use Rattle.merging.specs.ProductAnswers.{multiplyAnswer, concatenateAnswer};
-ghost use Rattle.merging.specs.Targets.{remapAnswer};
+ghost use Rattle.remapping.specs.Targets.{remapAnswer};
 ghost use Rattle.phases.specs.Answers.{conjugateAnswer};
 ghost use Rattle.ordering.specs.Orders.{saidOrder, compareAnswer};
 ghost use Rattle.products.specs.Kinds.{toldPauli, toldPauliPower};
@@ -101,7 +101,7 @@ impl PauliProduct {
         ensures { λ r. ⌜ toldPauli r ≡ remapAnswer (at targets) (self .items) ⌝ }
     {
         let p = self.items;
-        let a = merging::remap::remap_qubits(p, targets);
+        let a = remapping::remap_qubits(p, targets);
         let outcome = a.outcome;
         let items = a.items;
         PauliAnswer {

@@ -5,13 +5,11 @@ use Prim.Native.Nat.{ℕ}
 use native.Mathlib.Omega.{arith}
 use mathlib.Core.Path.{_≡_, refl, sym, ap, subst}
 use mathlib.Core.Bool.{Bool, true, false, not, cond}
-use mathlib.Core.List.{List}
-use mathlib.Core.Option.{Option, none, some}
+use mathlib.Core.List.{List, []}
 use Rattle.refusal.specs.Refusals.{Said, gives, refuses}
 use Rattle.terms.specs.Kind.{Terms}
 use Rattle.terms.specs.Setting.{write, hasRoom, added}
-use Rattle.terms.specs.Runs.{orFull}
-use Rattle.terms.specs.Entries.{allInRange, setIn, addIn, ended, collected}
+use Rattle.terms.specs.Entries.{allInRange, setIn, addIn, ended}
 
 -- the record of every accepted answer has the property P, and s stands beside every refusal
 pub record Answered {A B : Type 0} (P : B → Type 0) (s : B) (z : Said A × B) : Type 0 where
@@ -63,10 +61,19 @@ module _ {K N R : Type 0} (S : Terms K N) (inRange : N → Bool) (filled : List 
   ended-answered (gives l) h = finally-answered l (h l refl)
   ended-answered (refuses n l) h = answered-refused n l
 
-  pub collected-answered : (o : Option (List (S .Term))) → ((l : List (S .Term)) → o ≡ some l → allInRange S inRange l ≡ true → P (filled l)) → Answered P s (collected S inRange filled s o)
-  unfolding collected
-  collected-answered o h = ended-answered (orFull o) (λ l e. h l (was-some o l e))
-    where
-      was-some : (o : Option (List (S .Term))) (l : List (S .Term)) → orFull o ≡ gives l → o ≡ some l
-      was-some none l e = let z : _≡_ {A = ℕ} 0 1 = cc in absurd (omega arith)
-      was-some (some m) l e = cc
+-- ---- what a chain ends in, where `back` stands beside a refusal
+
+module _ {K N R : Type 0} (S : Terms K N) (inRange : N → Bool) (filled : List (S .Term) → R) (back : R) {o : Said (List (S .Term))} where
+  -- its own refusal
+  pub ended-refused : {n : ℕ} {l : List ℕ} → o ≡ refuses n l → (refuses n l, back) ≡ ended S inRange filled back o
+  unfolding ended
+  ended-refused e = rw e
+
+  -- what is held at the end, judged by 5
+  pub ended-out : {l : List (S .Term)} → o ≡ gives l → allInRange S inRange l ≡ false → (refuses 5 [], back) ≡ ended S inRange filled back o
+  unfolding ended
+  ended-out e out = rw (e, out)
+
+  pub ended-in : {l : List (S .Term)} {s : R} → o ≡ gives l → s ≡ filled l → allInRange S inRange l ≡ true → (gives tt, s) ≡ ended S inRange filled back o
+  unfolding ended
+  ended-in e is in-range = rw (e, is, in-range)

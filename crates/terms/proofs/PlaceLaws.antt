@@ -9,8 +9,9 @@ use mathlib.Core.Path.{_≡_, refl, sym, ap, _∙_}
 use mathlib.Core.Bool.{Bool, true, false, not}
 use mathlib.Core.List.{List, [], _∷_, _++_, map}
 use lib.ListN.{length, take, drop, getD, set, replicate, length-take, length-drop}
-use lib.Seq.{getD-take, length-take-le}
+use lib.Seq.{getD-take, length-take-le, take-all}
 use Rattle.terms.specs.Keyed.{firstAt, held, padded, omitted, each}
+use Rattle.terms.specs.Striking.{closedUp}
 use Rattle.terms.specs.Kind.{Terms}
 use Rattle.terms.specs.Setting.{mostTerms, keyed, coefficientAt}
 use Rattle.terms.proofs.BranchLaws.{passed, failed}
@@ -101,6 +102,14 @@ module _ {A : Type 0} {at n : ℕ} {t : List A} where
         within = omega arith;
         places = close-turn at i n t u d (s .past) h (omega (arith, s .whole, s .few)) (s .places);
       }
+
+  -- all are moved
+  pub closing-last : {u : List A} {i : ℕ} → Closing at n t u i → n ≤ i + 1 → (i ≡ n - 1) × (u ≡ closedUp at n t)
+  closing-last {u} {i} s e =
+      let long = length-take-le n t (omega (arith, s .whole, s .few)) in
+      let o = length-omitted at (take n t) (omega (arith, s .past, s .within)) in
+      let last : i ≡ n - 1 = omega (arith, s .within) in
+      (last, s .places ∙ (λ j. take i (omitted at (take n t)) ++ drop (last j) t) ∙ ap (λ (r : List A). r ++ drop (n - 1) t) (take-all i (omitted at (take n t)) (omega (arith, s .within))))
 
   -- the blank is put into the last place
   pub closing-done : {u : List A} {i : ℕ} (blank : A) → Held blank n t → Closing at n t u i → n ≤ i + 1 → set u i blank ≡ padded mostTerms blank (omitted at (take n t))

@@ -1,5 +1,5 @@
 -- What a program's set needs, in the words of code: a set has its count n and its places t, and i is the place that the search answered.
--- Then what a write and a run of additions keep. For any kind of terms.
+-- Then what a write keeps. For any kind of terms.
 -- Assumes nothing.
 use Prim.Native.Nat.{ℕ, _+_, _-_, _≤_, _<_}
 use native.Mathlib.Numerals.{add-one}
@@ -8,15 +8,14 @@ use native.Mathlib.Omega.{arith}
 use mathlib.Core.Path.{_≡_, refl, sym, ap, _∙_, subst}
 use mathlib.Core.Bool.{Bool, true, false, not, _||_, cond, true≢false}
 use mathlib.Core.List.{List, [], _∷_, _++_}
-use mathlib.Core.Option.{none, some, IsSome, Option·some-injective}
 use lib.Dec.{ltb}
 use lib.ListN.{length, take, drop, set, replicate, length-append, length-replicate, length-set, take-append-drop}
 use lib.Seq.{length-take-le}
 use borrow.Author.Tests.{lt-ltb, le-ltb, ltb-true, not-true}
 use Rattle.terms.specs.Keyed.{firstAt, held, has, written, struck, padded, omitted, each}
 use Rattle.terms.specs.Kind.{Terms}
-use Rattle.terms.specs.Setting.{mostTerms, keyed, write, hasRoom, added, addAll}
-use Rattle.terms.proofs.KeyedLaws.{There, Nowhere, there, nowhere, firstAt-le, length-struck, length-written, length-replaced, has-struck, has-written, each-struck, each-written, All, all-head, all-tail, by-test, has-fewer}
+use Rattle.terms.specs.Setting.{mostTerms, keyed, write, hasRoom, added}
+use Rattle.terms.proofs.KeyedLaws.{There, Nowhere, there, nowhere, firstAt-le, length-struck, length-written, length-replaced, has-struck, has-written, each-struck, each-written, by-test, has-fewer}
 use Rattle.terms.proofs.ClosingLaws.{padded-set, padded-snoc, padded-take}
 
 -- the places of a set with count n: n terms, and blanks past them
@@ -180,10 +179,6 @@ alike-by {K} S itself equal key-of =
       key-of = key-of;
     }
 
--- none is not some
-pub none-some : {A : Type 0} (x : A) → none ≡ some x → ⊥
-none-some x e = subst IsSome (sym e) tt
-
 module _ {K N : Type 0} (S : Terms K N) where
   -- ---- what a write keeps
 
@@ -257,45 +252,3 @@ module _ {K N : Type 0} (S : Terms K N) where
           by-test (S .same (S .key new) (S .key x))
           (λ q. absurd (true≢false (sym (r .swap k (S .key x) (subst (λ (j : K). S .same j (S .key x) ≡ true) (r .key-of k a) q)) ∙ t)))
           (λ q. q)
-
-  -- ---- additions one after the other
-
-  -- no additions
-  pub addAll-nil : (l : List (S .Term)) → addAll S [] l ≡ some l
-  unfolding addAll
-  addAll-nil l = refl
-
-  -- a first one that there is room for
-  pub addAll-room : (t : S .Term) (ts l : List (S .Term)) → roomFor S t l ≡ true → addAll S (t ∷ ts) l ≡ addAll S ts (addOne S t l)
-  unfolding addAll
-  addAll-room t ts l r = rw r
-
-  -- a first one that there is no room for
-  pub addAll-full : (t : S .Term) (ts l : List (S .Term)) → roomFor S t l ≡ false → addAll S (t ∷ ts) l ≡ none
-  unfolding addAll
-  addAll-full t ts l r = rw r
-
-  -- where the first part is added, the second goes on from there
-  pub addAll-append : (xs ys l m : List (S .Term)) → addAll S xs l ≡ some m → addAll S (xs ++ ys) l ≡ addAll S ys m
-  addAll-append [] ys l m e = ap (addAll S ys) (Option·some-injective l m (sym (addAll-nil l) ∙ e))
-  addAll-append (x ∷ xs) ys l m e =
-      by-test (roomFor S x l)
-      (λ r. addAll-room x (xs ++ ys) l r ∙ addAll-append xs ys (addOne S x l) m (sym (addAll-room x xs l r) ∙ e))
-      (λ r. absurd (none-some m (sym (addAll-full x xs l r) ∙ e)))
-
-  -- where it is not, nothing is
-  pub addAll-append-none : (xs ys l : List (S .Term)) → addAll S xs l ≡ none → addAll S (xs ++ ys) l ≡ none
-  addAll-append-none [] ys l e = absurd (none-some l (sym e ∙ addAll-nil l))
-  addAll-append-none (x ∷ xs) ys l e =
-      by-test (roomFor S x l)
-      (λ r. addAll-room x (xs ++ ys) l r ∙ addAll-append-none xs ys (addOne S x l) (sym (addAll-room x xs l r) ∙ e))
-      (λ r. addAll-full x (xs ++ ys) l r)
-
-  -- what each step keeps is kept: P of the terms held, Q of those added
-  pub addAll-keeps : (P : List (S .Term) → Type 0) (Q : S .Term → Type 0) → ((t : S .Term) (m : List (S .Term)) → Q t → P m → roomFor S t m ≡ true → P (addOne S t m))
-      → (ts l l′ : List (S .Term)) → All Q ts → P l → addAll S ts l ≡ some l′ → P l′
-  addAll-keeps P Q step [] l l′ q h e = subst P (Option·some-injective l l′ (sym (addAll-nil l) ∙ e)) h
-  addAll-keeps P Q step (t ∷ ts) l l′ q h e =
-      by-test (roomFor S t l)
-      (λ r. addAll-keeps P Q step ts (addOne S t l) l′ (all-tail Q t ts q) (step t l (all-head Q t ts q) h r) (sym (addAll-room t ts l r) ∙ e))
-      (λ r. absurd (none-some l′ (sym (addAll-full t ts l r) ∙ e)))

@@ -5,17 +5,19 @@ use Prim.Native.Nat.{ℕ}
 use mathlib.Core.Path.{_≡_, refl, sym, ap, _∙_}
 use mathlib.Core.Bool.{Bool, true, false, not, _&&_, cond}
 use mathlib.Core.List.{List, [], _∷_, map}
-use mathlib.Core.Option.{some, Option·some-injective}
+use Rattle.refusal.specs.Refusals.{gives}
 use Rattle.letters.specs.Gauss.{G, 𝟘, _⊕_, _⊗_, conj, i^, eqG}
 use Rattle.letters.specs.Sums.{Σ}
 use Rattle.letters.proofs.GaussLaws.{ring, ⊕-assoc, ⊕-comm, ⊕-𝟘, 𝟘-⊕, 𝟘-⊗, ⊗-assoc, ⊗-left-comm, ⊕-cancel, eqG-true, conj-⊗}
 use Rattle.letters.proofs.SumLaws.{Σ-cong, Σ-scale}
 use Rattle.terms.specs.Keyed.{held, struck, written, headOr, concatMap}
 use Rattle.terms.specs.Setting.{keyed, coefficientAt, write, added, addAll}
-use Rattle.terms.specs.Chains.{timesTerms, conjugateTerms, convertTerms, scaledTerms, fullTerms}
+use Rattle.terms.specs.Chains.{conjugateTerms, convertTerms, scaledTerms, fullTerms}
 use Rattle.terms.specs.Gaussian.{gaussian, gaussianProducts, summed, weighted}
 use Rattle.terms.proofs.KeyedLaws.{All, by-test}
-use Rattle.terms.proofs.SettingLaws.{roomFor, addOne, write-zero, write-other, addAll-nil, addAll-room, addAll-full, none-some}
+use Rattle.terms.proofs.SettingLaws.{roomFor, addOne, write-zero, write-other}
+use Rattle.terms.proofs.AnswerLaws.{not-both}
+use Rattle.terms.proofs.StepLaws.{given-same, addAll-nil, addAll-room, addAll-full, timesTerms}
 use Rattle.terms.proofs.SummedLaws.{summed-cons, summed-nil, summed-on, summed-same, summed-scale, summed-scale-r, conj-summed, Σ-summed, summed-cond, summed-map, summed-concatMap}
 
 -- ---- a write
@@ -100,17 +102,17 @@ module _ {K : Type 0} (same : K → K → Bool) (φ : K → G) (respects : (x y 
       cancel w′ c g w a e = ⊕-cancel (c ⊗ g) w′ (w ⊕ a ⊗ g) (⊕-comm (c ⊗ g) w′ ∙ e ∙ sort c g w a)
 
   -- and so does a run of additions
-  pub weighted-addAll : (ts l l′ : List (K × G)) → addAll (gaussian K same) ts l ≡ some l′ → weighted φ l′ ≡ weighted φ l ⊕ weighted φ ts
+  pub weighted-addAll : (ts l l′ : List (K × G)) → addAll (gaussian K same) (map gives ts) l ≡ gives l′ → weighted φ l′ ≡ weighted φ l ⊕ weighted φ ts
   weighted-addAll [] l l′ e =
-      ap (λ y. weighted φ y) (sym (Option·some-injective l l′ (sym (addAll-nil (gaussian K same) l) ∙ e)))
+      ap (λ y. weighted φ y) (sym (given-same l l′ (sym (addAll-nil (gaussian K same) l) ∙ e)))
       ∙ sym (ap (λ y. weighted φ l ⊕ y) (summed-nil (λ t. t .1 ⊗ φ (t .0))) ∙ ⊕-𝟘 (weighted φ l))
   weighted-addAll (t ∷ ts) l l′ e =
       by-test (roomFor (gaussian K same) t l)
-      (λ r. weighted-addAll ts (addOne (gaussian K same) t l) l′ (sym (addAll-room (gaussian K same) t ts l r) ∙ e)
+      (λ r. weighted-addAll ts (addOne (gaussian K same) t l) l′ (sym (addAll-room (gaussian K same) t (map gives ts) l r) ∙ e)
       ∙ ap (λ y. y ⊕ weighted φ ts) (weighted-added (t .0) (t .1) l)
       ∙ ⊕-assoc (weighted φ l) (t .1 ⊗ φ (t .0)) (weighted φ ts)
       ∙ ap (λ y. weighted φ l ⊕ y) (sym (summed-cons (λ t. t .1 ⊗ φ (t .0)) t ts)))
-      (λ r. absurd (none-some l′ (sym (addAll-full (gaussian K same) t ts l r) ∙ e)))
+      (λ r. absurd (not-both l′ 6 [] (sym e ∙ addAll-full (gaussian K same) t (map gives ts) l r)))
 
 -- ---- products of two sums
 

@@ -6,23 +6,23 @@ use native.Mathlib.Omega.{arith}
 use mathlib.Core.Path.{_≡_, refl, sym, ap, _∙_}
 use mathlib.Core.Bool.{Bool, true, false, not, _&&_}
 use mathlib.Core.List.{List, []}
-use mathlib.Core.Option.{some}
 use lib.Dec.{leb}
 use lib.ListN.{length, drop}
 use borrow.Author.Tests.{not-true}
+use Rattle.refusal.specs.Refusals.{Said, gives}
 use Rattle.terms.specs.Keyed.{each}
 use Rattle.terms.specs.Kind.{Terms}
 use Rattle.terms.specs.Setting.{mostTerms, write, hasRoom, added, addAll}
 use Rattle.terms.specs.Places.{goodTerm, validPlaces}
-use Rattle.terms.specs.Entries.{allInRange, setIn, addIn, collected}
-use Rattle.terms.proofs.KeyedLaws.{All}
-use Rattle.terms.proofs.SettingLaws.{Held, Alike, different, write-length, keys-write, each-write, each-write-other, addAll-keeps}
+use Rattle.terms.specs.Entries.{allInRange, setIn, addIn, ended}
+use Rattle.terms.proofs.SettingLaws.{Held, Alike, different, write-length, keys-write, each-write, each-write-other}
 use Rattle.terms.proofs.EachLaws.{each-follows, each-both}
 use Rattle.terms.proofs.FilledLaws.{Sets, heldIn, own-held, filled-count, filled-places}
 use Rattle.terms.proofs.PlacesLaws.{Valid, padded-valid}
 use Rattle.terms.proofs.PlacesLaws as places
 use Rattle.terms.proofs.GoodLaws as good
-use Rattle.terms.proofs.AnswerLaws.{Answered, set-answered, add-answered, collected-answered}
+use Rattle.terms.proofs.AnswerLaws.{Answered, set-answered, add-answered, ended-answered}
+use Rattle.terms.proofs.StepLaws.{Giving, addAll-keeps}
 
 -- a kind of set with terms of S: what the keys and the coefficients of its terms have to pass, which of its places are blank, and which records
 -- are valid
@@ -164,10 +164,10 @@ module _ {K N R : Type 0} {S : Terms K N} (W : ValidSets S R) where
         once = keys-write S (W .alike) k a l (h .once);
       }
 
-  -- terms with good keys, added one after the other
-  pub sound-all : (ts l m : List (S .Term)) → All (λ t. W .goodKey (S .key t) ≡ true) ts → Sound S (W .goodKey) l → addAll S ts l ≡ some m → Sound S (W .goodKey) m
-  sound-all ts l m g h e =
-      addAll-keeps S (Sound S (W .goodKey)) (λ t. W .goodKey (S .key t) ≡ true) (λ t n q p r. sound-write (S .key t) (added S (S .key t) (S .coefficient t) n) n p q r) ts l m g h e
+  -- steps that give terms with good keys, one after the other
+  pub sound-all : (xs : List (Said (S .Term))) (l m : List (S .Term)) → Giving S (λ t. W .goodKey (S .key t) ≡ true) xs → Sound S (W .goodKey) l → addAll S xs l ≡ gives m → Sound S (W .goodKey) m
+  sound-all xs l m g h e =
+      addAll-keeps S (Sound S (W .goodKey)) (λ t. W .goodKey (S .key t) ≡ true) (λ t n q p r. sound-write (S .key t) (added S (S .key t) (S .coefficient t) n) n p q r) xs l m g h e
 
   -- with coefficients in range they make a valid set
   pub sound-valid : (l : List (S .Term)) → Sound S (W .goodKey) l → allInRange S (W .inRange) l ≡ true → W .valid (W .sets .filled l) ≡ true
@@ -179,7 +179,7 @@ module _ {K N R : Type 0} {S : Terms K N} (W : ValidSets S R) where
       (h .once)
 
   -- the answer of such a chain, with s beside its refusals
-  pub chain-valid : (s : R) (ts l : List (S .Term)) → All (λ t. W .goodKey (S .key t) ≡ true) ts → Sound S (W .goodKey) l
-      → Answered (λ x. W .valid x ≡ true) s (collected S (W .inRange) (W .sets .filled) s (addAll S ts l))
-  chain-valid s ts l g h =
-      collected-answered S (W .inRange) (W .sets .filled) (addAll S ts l) (λ m e r. sound-valid m (sound-all ts l m g h e) r)
+  pub chain-valid : (s : R) (xs : List (Said (S .Term))) (l : List (S .Term)) → Giving S (λ t. W .goodKey (S .key t) ≡ true) xs → Sound S (W .goodKey) l
+      → Answered (λ x. W .valid x ≡ true) s (ended S (W .inRange) (W .sets .filled) s (addAll S xs l))
+  chain-valid s xs l g h =
+      ended-answered S (W .inRange) (W .sets .filled) (addAll S xs l) (λ m e r. sound-valid m (sound-all xs l m g h e) r)

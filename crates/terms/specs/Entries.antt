@@ -3,12 +3,10 @@
 -- Document 01, `Numbers of the no`, 5 and 6.
 use mathlib.Core.Bool.{Bool, not, cond}
 use mathlib.Core.List.{List, [], map}
-use mathlib.Core.Option.{Option}
 use Rattle.refusal.specs.Refusals.{Said, gives, refuses, done}
 use Rattle.terms.specs.Keyed.{held, each}
 use Rattle.terms.specs.Kind.{Terms}
 use Rattle.terms.specs.Setting.{keyed, write, hasRoom, added}
-use Rattle.terms.specs.Runs.{orFull}
 
 module _ {K N : Type 0} (S : Terms K N) (inRange : N → Bool) where
   -- every coefficient is in range
@@ -36,7 +34,3 @@ module _ {K N : Type 0} (S : Terms K N) (inRange : N → Bool) where
     unfoldable pub ended : R → Said (List (S .Term)) → Said Unit × R
     ended s (gives l) = cond (not (allInRange l)) (refuses 5 [], s) (done, filled l)
     ended s (refuses n l) = (refuses n l, s)
-
-    -- terms added one after the other; 6 where there was no room for one
-    unfoldable pub collected : R → Option (List (S .Term)) → Said Unit × R
-    collected s o = ended s (orFull o)

@@ -4,6 +4,6 @@ pub mod Setting
 pub mod Places
 pub mod Chains
 pub mod Gaussian
-pub mod Runs
 pub mod Entries
 pub mod Marks
+pub mod Striking

@@ -3,9 +3,9 @@
 use Prim.Native.Nat.{ℕ}
 use mathlib.Core.Bool.{Bool, _||_, cond}
 use mathlib.Core.List.{List, [], _∷_}
-use mathlib.Core.Option.{Option, none, some}
 use lib.Dec.{ltb}
 use lib.ListN.{length}
+use Rattle.refusal.specs.Refusals.{Said, gives, refuses}
 use Rattle.terms.specs.Keyed.{held, has, written, struck, headOr}
 use Rattle.terms.specs.Kind.{Terms}
 
@@ -34,11 +34,13 @@ module _ {K N : Type 0} (S : Terms K N) where
   unfoldable pub added : K → N → List (S .Term) → N
   added k a l = S .sum (coefficientAt k l) a
 
-  -- terms added one after the other; none where one more than the most would be held at some step
-  unfoldable pub addAll : List (S .Term) → List (S .Term) → Option (List (S .Term))
-  addAll [] l = some l
-  addAll (t ∷ ts) l =
+  -- the steps of a chain, one after the other, each a term to add or a refusal: the first refused step refuses the chain, and so does, by 6, a
+  -- step at which one more than the most would be held
+  unfoldable pub addAll : List (Said (S .Term)) → List (S .Term) → Said (List (S .Term))
+  addAll [] l = gives l
+  addAll (refuses n s ∷ xs) l = refuses n s
+  addAll (gives t ∷ xs) l =
       let k = S .key t in
       let a = added k (S .coefficient t) l in
-      let r = addAll ts (write k a l) in
-      cond (hasRoom k a l) r none
+      let r = addAll xs (write k a l) in
+      cond (hasRoom k a l) r (refuses 6 [])

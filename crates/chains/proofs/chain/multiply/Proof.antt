@@ -2,8 +2,8 @@
 -- Assumes nothing.
 use borrow.Author.Needs.{needs}
 use Rattle.terms.proofs.BranchLaws.{passed, failed}
-use Rattle.chains.specs.ChainAnswers.{multiplySets}
 use Rattle.term_sets.proofs.ValidLaws.{valid-own}
+use Rattle.chains.specs.ChainAnswers.{multiplySets}
 use Rattle.chains.proofs.chain.multiply.Statement.{statement}
 use Rattle.chains.proofs.chain.multiply.Tie as tie
 
@@ -30,16 +30,13 @@ multiplied-requires c κs = (
   valid-own _ _ (passed (c .before .is-valid2 .ensures) (c .if2 .left)),
 )
 
-finished-requires : tie.Need-finished-requires
-finished-requires c κs = record { terms = _; is = c .multiplied .ensures }
-
 returns-3 : tie.Need-returns-3
 unfolding multiplySets
 returns-3 c =
-    let two = c .before .before in
+    let two = c .before in
     let good = passed (two .before .before .before .is-valid .ensures) (two .before .before .if1 .left) in
     let good2 = passed (two .before .is-valid2 .ensures) (two .if2 .left) in
-    rw (good, good2) (c .finished .ensures _ (c .before .multiplied .ensures))
+    rw (good, good2) (c .multiplied .ensures)
 
 pub multiply-spec : {M : Type 1} → statement M
 multiply-spec =
@@ -50,5 +47,4 @@ multiply-spec =
     is-valid-requires-2
     returns-2
     multiplied-requires
-    finished-requires
     returns-3)

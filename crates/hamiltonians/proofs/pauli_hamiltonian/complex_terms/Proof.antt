@@ -13,7 +13,7 @@ use Rattle.hamiltonians.specs.declared.pauli_hamiltonian.RealTerm.{RealT
 use Rattle.term_sets.specs.declared.TermSet.{TermSet}
 use Rattle.terms.proofs.FilledLaws.{filled-by, filled-places}
 use Rattle.terms.proofs.GatherLaws.{Gathered, gathered-none, gathered-more, gathered-done, gathered-count}
-use Rattle.hamiltonians.proofs.CopyLaws.{take-held}
+use Rattle.terms.proofs.CopyLaws.{take-held}
 use Rattle.term_sets.proofs.SetLaws.{termSets}
 use Rattle.hamiltonians.proofs.pauli_hamiltonian.complex_terms.Statement.{statement}
 use Rattle.hamiltonians.proofs.pauli_hamiltonian.complex_terms.Tie as tie

@@ -1,21 +1,20 @@
--- `merge::next_site`: the test is that of `nextSite`; a place below the count of a valid record is one of the array.
+-- `merge::next_site`: the test is that of `nextSite`.
 -- Assumes nothing.
 use mathlib.Core.Path.{sym, ap, _∙_}
 use Prim.Native.Nat.{ℕ, _+_}
 use borrow.Author.Needs.{needs}
-use Rattle.items.proofs.RecordLaws.{place-fits}
 use Rattle.merging.proofs.StepLaws.{next-in, next-out}
 use Rattle.merging.proofs.merge.next_site.Statement.{statement}
 use Rattle.merging.proofs.merge.next_site.Tie as tie
 
 element-copy-out-wide : tie.Need-element-copy-out-wide
-element-copy-out-wide c = place-fits _ _ (c .before .pre) (c .if1 .taken)
+element-copy-out-wide c = search needs
 
 wide-requires : tie.Need-wide-requires
 wide-requires c κs = search needs
 
 returns : tie.Need-returns
-returns c = c .wide .ensures ∙ sym (next-in _ _ (c .before .before .if1 .taken))
+returns c = c .wide .ensures ∙ sym (next-in _ _ _ (c .before .before .if1 .taken))
 
 wide-requires-2 : tie.Need-wide-requires-2
 wide-requires-2 c κs = search needs
@@ -24,7 +23,7 @@ add-result : tie.Need-add-result
 add-result c = search needs
 
 returns-2 : tie.Need-returns-2
-returns-2 c = ap (λ (n : ℕ). n + 1) (c .wide2 .ensures) ∙ sym (next-out _ _ (c .before .if1 .left))
+returns-2 c = ap (λ (n : ℕ). n + 1) (c .wide2 .ensures) ∙ sym (next-out _ _ _ (c .before .if1 .left))
 
 pub next-site-spec : {M : Type 1} → statement M
 next-site-spec =

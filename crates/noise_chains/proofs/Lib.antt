@@ -1,4 +1,0 @@
-pub mod FullLaws
-pub mod RemapLaws
-pub mod NoiseValidAnswers
-pub mod NoiseTheorems

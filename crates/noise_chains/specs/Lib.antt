@@ -1,2 +1,0 @@
-pub mod ChainAnswers
-pub mod Chained

@@ -1,0 +1,3 @@
+pub mod WritingAnswers
+pub mod Striking
+pub mod Numbers

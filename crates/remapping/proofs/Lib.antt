@@ -1,0 +1,4 @@
+pub mod InsertLaws
+pub mod TargetLaws
+pub mod SortedLaws
+pub mod RemapLaws

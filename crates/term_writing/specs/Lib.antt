@@ -1,0 +1,2 @@
+pub mod WritingAnswers
+pub mod Striking
