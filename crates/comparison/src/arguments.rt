@@ -10,21 +10,21 @@ use spins::{
 };
 
 // An operator, and whether it was refused on the way.
-#[derive(Drop)]
+#[derive(Clone, Copy)]
 pub(crate) struct BuiltOperator {
     pub set: TermSet,
     pub refused: bool,
     pub next: usize,
 }
 
-#[derive(Drop)]
+#[derive(Clone, Copy)]
 pub(crate) struct BuiltHamiltonian {
     pub set: PauliHamiltonian,
     pub refused: bool,
     pub next: usize,
 }
 
-#[derive(Drop)]
+#[derive(Clone, Copy)]
 pub(crate) struct BuiltNoise {
     pub operator: PauliLindbladNoiseOperator,
     pub refused: bool,

@@ -10,7 +10,7 @@ use letters::Kind;
 use spins::{Complex, Items, PauliOperator, TermSet};
 
 // An operator after calls on it.
-#[derive(Drop)]
+#[derive(Clone, Copy)]
 struct TermCalls {
     pub set: TermSet,
     pub verdict: Verdict,

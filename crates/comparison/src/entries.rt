@@ -6,13 +6,13 @@ use spins::{
 };
 
 // What `set` answers, and the terms after it.
-#[derive(Drop)]
+#[derive(Clone, Copy)]
 pub(crate) struct TermsAfterSet {
     pub answer: SetAnswer,
     pub set: TermSet,
 }
 
-#[derive(Drop)]
+#[derive(Clone, Copy)]
 pub(crate) struct TermsAnswer {
     pub outcome: Outcome,
     pub set: TermSet,

@@ -7,40 +7,40 @@ use spins::{
     TermSet,
 };
 
-#[derive(Drop)]
+#[derive(Clone, Copy)]
 struct ReadItem {
     pub site: u8,
     pub letter: u8,
     pub next: usize,
 }
 
-#[derive(Drop)]
+#[derive(Clone, Copy)]
 pub(crate) struct ReadProduct {
     pub items: Items,
     pub next: usize,
 }
 
-#[derive(Drop)]
+#[derive(Clone, Copy)]
 pub(crate) struct ReadTargets {
     pub sites: [u8; 31],
     pub next: usize,
 }
 
 // Terms in the order written: a list, not yet a set.
-#[derive(Drop)]
+#[derive(Clone, Copy)]
 pub(crate) struct ReadTerms {
     pub list: TermSet,
     pub next: usize,
 }
 
-#[derive(Drop)]
+#[derive(Clone, Copy)]
 pub(crate) struct ReadNoise {
     pub list: NoiseSet,
     pub next: usize,
 }
 
 // A count of spins and a row.
-#[derive(Drop)]
+#[derive(Clone, Copy)]
 pub(crate) struct ReadPlace {
     pub spins: u32,
     pub row: u64,

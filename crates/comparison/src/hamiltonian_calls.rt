@@ -8,7 +8,7 @@ use observations::records::complex_terms;
 use spins::{Complex, Items, PauliHamiltonian, PauliProduct};
 
 // A Hamiltonian after calls on it.
-#[derive(Drop)]
+#[derive(Clone, Copy)]
 pub(crate) struct HamiltonianCalls {
     pub set: PauliHamiltonian,
     pub verdict: Verdict,

@@ -12,7 +12,7 @@ use observations::records::{complex_terms, same_pairs, same_terms};
 use spins::{DecoherenceOperator, PauliHamiltonian, PauliLindbladNoiseOperator};
 
 // Both sets after calls.
-#[derive(Drop)]
+#[derive(Clone, Copy)]
 struct ListCalls {
     pub system: PauliHamiltonian,
     pub noise: PauliLindbladNoiseOperator,

@@ -1,4 +1,6 @@
 // Compares our answers with those of the Rust: reads the records of `vectors.bin` in the folder it is run in, and prints a line for each opcode.
+#![tactic(auto)]
+
 mod answers;
 mod arguments;
 mod calls;
@@ -18,13 +20,13 @@ mod row_answers;
 mod single_letters;
 mod verdict;
 
-fn main() {
-    let fd = os::open_read(b"vectors.bin");
-    if fd < 0 {
-        io::write_all(1, b"vectors.bin: cannot be opened\n");
-        return;
+use std::fs::File;
+
+fn main(rt: HostRuntime) {
+    match File::open(&rt, "vectors.bin") {
+        Ok(file) => report::print_report(records::compared_file(file)),
+        Err(_) => {
+            io::write_all(1, b"vectors.bin: cannot be opened\n");
+        }
     }
-    let report = records::compared_file(fd);
-    libc::close(fd);
-    report::print_report(report);
 }

@@ -10,7 +10,7 @@ use crate::verdict::{Verdict, is_refused, refused_if, worse};
 use spins::{Complex, DecoherenceProduct, GetAnswer, Items, PauliLindbladNoiseOperator};
 
 // A noise set after calls on it.
-#[derive(Drop)]
+#[derive(Clone, Copy)]
 pub(crate) struct NoiseCalls {
     pub operator: PauliLindbladNoiseOperator,
     pub verdict: Verdict,

@@ -6,25 +6,25 @@ use spins::Complex;
 // A position past every record.
 pub(crate) const PAST: usize = usize::MAX;
 
-#[derive(Drop)]
+#[derive(Clone, Copy)]
 pub(crate) struct ReadByte {
     pub value: u8,
     pub next: usize,
 }
 
-#[derive(Drop)]
+#[derive(Clone, Copy)]
 pub(crate) struct ReadWord {
     pub value: u64,
     pub next: usize,
 }
 
-#[derive(Drop)]
+#[derive(Clone, Copy)]
 pub(crate) struct ReadFloat {
     pub value: f64,
     pub next: usize,
 }
 
-#[derive(Drop)]
+#[derive(Clone, Copy)]
 pub(crate) struct ReadNumber {
     pub value: Complex,
     pub next: usize,

@@ -1,4 +1,6 @@
 // The records of a file: read one after the other, and compared by their opcodes.
+ghost use Rattle.std.specs.Prelude.{◌≤◌, length};
+
 use crate::reader::wide;
 use crate::report::{Report, empty_report, with_altered, with_unparsed, with_verdict};
 use crate::verdict::{Verdict, is_same};
@@ -6,9 +8,11 @@ use crate::{
     calls, hamiltonian_calls, lists, noise_calls, operator_answers, product_answers, row_answers,
     single_letters,
 };
+use std::fs::File;
+use std::io::Read;
 
 // What stands next in a file.
-#[derive(Drop)]
+#[derive(Clone, Copy)]
 enum Next {
     // A record of so many bytes, in the buffer.
     Record(usize),
@@ -39,10 +43,24 @@ fn opcode(buffer: &[u8]) -> u8 {
     0
 }
 
+// Reads until a buffer is full, the file ends or a read fails: how many bytes it put at the buffer's start.
+fn read_full(file: &mut File, buffer: &mut [u8]) -> usize
+    ensures { result ≤ length buffer.new }
+{
+    let mut done = 0usize;
+    while done < buffer.len() {
+        match file.read(&mut buffer[done..]) {
+            Ok(0) | Err(_) => return done,
+            Ok(n) => done += n,
+        }
+    }
+    done
+}
+
 // Reads the next record: a length of two bytes, the low one first, then so many bytes.
-fn read_record(fd: i32, buffer: &mut [u8]) -> Next {
+fn read_record(file: &mut File, buffer: &mut [u8]) -> Next {
     let mut head = [0u8; 2];
-    let got = io::read_full(fd, &mut head);
+    let got = read_full(file, &mut head);
     if got == 0 {
         return Next::End;
     }
@@ -53,7 +71,7 @@ fn read_record(fd: i32, buffer: &mut [u8]) -> Next {
     if buffer.len() < n {
         return Next::Cut;
     }
-    if io::read_full(fd, &mut buffer[..n]) < n {
+    if read_full(file, &mut buffer[..n]) < n {
         return Next::Cut;
     }
     Next::Record(n)
@@ -104,15 +122,15 @@ fn with_record(report: Report, index: u64, buffer: &mut [u8], n: usize) -> Repor
     r
 }
 
-// The report on a file, whose records are counted from 1. A proved loop has to end, and nothing says that a file does; no run comes to the last turn.
-pub(crate) fn compared_file(fd: i32) -> Report {
+// The report on a file, whose records are counted from 1; the file is closed after it. A proved loop has to end, and nothing says that a file does; no run comes to the last turn.
+pub(crate) fn compared_file(mut file: File) -> Report {
     let mut space = io::large_buffer();
     let buffer: &mut [u8] = &mut space;
     let mut report = empty_report();
     let mut index: u64 = 0;
     while index < u64::MAX {
         index += 1;
-        match read_record(fd, buffer) {
+        match read_record(&mut file, buffer) {
             Next::End => return report,
             Next::Cut => {
                 report = with_unparsed(report, index);

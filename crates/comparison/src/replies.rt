@@ -13,7 +13,7 @@ const COEFFICIENT: u8 = 2;
 const EMPTY_SIDE: u8 = 4;
 
 // A reply, and the coefficient that it gives, zero where it gives none.
-#[derive(Drop)]
+#[derive(Clone, Copy)]
 pub(crate) struct ReadReply {
     pub tag: u8,
     pub value: Complex,

@@ -4,7 +4,7 @@ use crate::verdict::Verdict;
 // The opcodes.
 const OPCODES: usize = 49;
 
-#[derive(Drop)]
+#[derive(Clone, Copy)]
 pub(crate) struct Report {
     pub compared: [u64; 49],
     pub refused: [u64; 49],

@@ -1,7 +1,7 @@
 // What comparing a record comes to.
 use spins::{Carried, Outcome, Refusal};
 
-#[derive(Drop)]
+#[derive(Clone, Copy)]
 pub(crate) enum Verdict {
     Same,
     Differs,

@@ -1,10 +1,12 @@
 // Complex numbers of two f64, and the size that a coefficient may have.
+#![tactic(auto)]
+
 ghost use Rattle.std.specs.Prelude.{◌≡◌};
 ghost use Rattle.complex.specs.Complex.{sum_of, product_of, conjugate_of, is_zero, part_in_range, in_range, is_plus_zero, unit_of_I};
 
 pub mod whole;
 
-#[derive(Drop)]
+#[derive(Clone, Copy)]
 pub struct Complex {
     pub re: f64,
     pub im: f64,

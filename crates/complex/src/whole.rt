@@ -18,7 +18,7 @@ const FIELDS: u64 = 2048;
 const LEADING_DIGIT: u64 = 4503599627370496;
 
 // How many parts a float has, or that number 11 refuses it.
-#[derive(Drop)]
+#[derive(Clone, Copy)]
 pub enum WholePart {
     Parts(i64),
     NotWhole,

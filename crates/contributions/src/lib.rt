@@ -1,4 +1,6 @@
 // What a term contributes to an f64 row, written at its places in the arrays of contributions.
+#![tactic(auto)]
+
 ghost use Rattle.std.specs.Prelude.{◌≡◌, [], ◌∷◌};
 ghost use Rattle.rows.specs.HalfUnits.{minus_half_unit};
 ghost use Rattle.contributions.specs.Values.{Arrays, written, commutator_values, noise_values};

@@ -1,4 +1,6 @@
 // The exact rows of open systems, in whole halves.
+#![tactic(auto)]
+
 ghost use Rattle.std.specs.Prelude.{false, true, ◌≡◌, ◌*◌, ◌^◌};
 ghost use Rattle.refusal.specs.Refusals.{gives};
 ghost use Rattle.master_equation.specs.Numbers.{halves};

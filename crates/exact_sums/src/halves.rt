@@ -5,7 +5,7 @@ ghost use Rattle.master_equation.specs.Numbers.{halves};
 ghost use Rattle.exact_sums.specs.ExactSums.{whole, within};
 
 // A number of halves.
-#[derive(Drop)]
+#[derive(Clone, Copy)]
 pub struct Halves {
     pub re: i64,
     pub im: i64,

@@ -1,4 +1,6 @@
 // Exact rows: contributions of whole numbers added up by column, zero sums left out, and handed over into lent buffers.
+#![tactic(auto)]
+
 ghost use Rattle.std.specs.Prelude.{◌≡◌, false, true, [], ◌∷◌, ◌++◌, map, ◌≤◌, ◌<◌, ◌+◌, take, length, drop};
 ghost use Rattle.letters.specs.Tests.{every};
 ghost use Rattle.rows.specs.Buffers.{value_in, Long, entry_in, said_delivery};

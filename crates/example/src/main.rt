@@ -1,4 +1,6 @@
 // Prints exact rows of a small system, or why a call is refused.
+#![tactic(auto)]
+
 use printing::{MOST_ENTRIES, print_entries};
 use spins::{
     Complex, DecoherenceProduct, Delivery, PauliHamiltonian, PauliLindbladNoiseOperator,

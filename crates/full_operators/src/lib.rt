@@ -1,4 +1,6 @@
 // Noise of two full operators: every pair of a left term and a right one, added to a noise set.
+#![tactic(auto)]
+
 ghost use Rattle.std.specs.Prelude.{◌≡◌, map, ◌≤◌};
 ghost use Rattle.refusal.specs.Refusals.{gives};
 ghost use Rattle.terms.specs.Setting.{most_terms, add_all};

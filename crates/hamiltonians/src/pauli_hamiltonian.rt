@@ -16,25 +16,25 @@ use refusal::{Outcome, Refusal};
 use term_sets::{GetAnswer, SetAnswer, Term, TermSet, held_count};
 use terms::MOST_TERMS;
 
-#[derive(Drop)]
+#[derive(Clone, Copy)]
 pub struct RealTerm {
     pub items: Items,
     pub coefficient: f64,
 }
 
-#[derive(Drop)]
+#[derive(Clone, Copy)]
 pub struct PauliHamiltonian {
     pub count: usize,
     pub terms: [RealTerm; MOST_TERMS],
 }
 
-#[derive(Drop)]
+#[derive(Clone, Copy)]
 pub struct HamiltonianAfterSet {
     pub answer: SetAnswer,
     pub set: PauliHamiltonian,
 }
 
-#[derive(Drop)]
+#[derive(Clone, Copy)]
 pub struct HamiltonianAnswer {
     pub outcome: Outcome,
     pub set: PauliHamiltonian,
@@ -87,7 +87,7 @@ fn without(s: PauliHamiltonian, at: usize) -> PauliHamiltonian
 }
 
 // A set, and whether there was room for what was to be put into it.
-#[derive(Drop)]
+#[derive(Clone, Copy)]
 pub(crate) struct Written {
     pub room: bool,
     pub set: PauliHamiltonian,

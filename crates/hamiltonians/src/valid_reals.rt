@@ -12,7 +12,7 @@ use marks::{is_new_marked, mark_of};
 use terms::MOST_TERMS;
 
 // What number 0 says of a Hamiltonian; of a valid one its count, and each term's masks and coefficient.
-#[derive(Drop)]
+#[derive(Clone, Copy)]
 pub struct RealMasks {
     pub valid: bool,
     pub count: usize,

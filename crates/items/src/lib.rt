@@ -1,4 +1,6 @@
 // The record of a product: a count with two flat arrays, sites ascending, zeros past the count.
+#![tactic(auto)]
+
 ghost use Rattle.std.specs.Prelude.{◌≡◌, ◌&&◌, true, ◌≤◌, min, ◌+◌, leb};
 ghost use Rattle.items.specs.Record.{empty_product, highest_site, capacity, place_valid, valid, same_items, reach};
 ghost use Rattle.letters.specs.Answers.{highest_letter};
@@ -22,21 +24,21 @@ pub const SITE_COUNT: usize = HIGHEST_SITE as usize + 1;
 // The sites that a product can occupy at once.
 pub const CAPACITY: usize = 31;
 
-#[derive(Drop)]
+#[derive(Clone, Copy)]
 pub struct Items {
     pub count: usize,
     pub sites: [Site; CAPACITY],
     pub letters: [u8; CAPACITY],
 }
 
-#[derive(Drop)]
+#[derive(Clone, Copy)]
 pub struct ItemsAnswer {
     pub outcome: Outcome,
     pub items: Items,
 }
 
 // A product with its power of i.
-#[derive(Drop)]
+#[derive(Clone, Copy)]
 pub struct ItemsWithPower {
     pub outcome: Outcome,
     pub power: u8,
@@ -44,7 +46,7 @@ pub struct ItemsWithPower {
 }
 
 // What stands on a site.
-#[derive(Drop)]
+#[derive(Clone, Copy)]
 pub enum Got {
     Letter(u8),
     Free,
@@ -101,7 +103,7 @@ fn zeros_past<'a>(count: usize, sites: &'a [Site; CAPACITY], letters: &'a [u8; C
 }
 
 // What number 0 says of a record, and the masks of one that it lets pass.
-#[derive(Drop)]
+#[derive(Clone, Copy)]
 pub struct Verdict {
     pub valid: bool,
     pub masks: u64,

@@ -1,5 +1,7 @@
 // The letters of one site: 0 identity, 1 X, 2 Y (iY in a decoherence product), 3 Z.
 // A factor is a power of i, 0 to 3.
+#![tactic(auto)]
+
 ghost use Rattle.std.specs.Prelude.{◌≡◌};
 ghost use Rattle.letters.specs.Matrices.{letters_of};
 ghost use Rattle.letters.specs.Answers.{other, said_letter, multiply_letters, conjugate_letter, convert_letter};
@@ -13,14 +15,14 @@ use refusal::Refusal;
 // The highest letter code.
 pub const HIGHEST_LETTER: u8 = 3;
 
-#[derive(Drop)]
+#[derive(Clone, Copy)]
 pub enum Kind {
     Pauli,
     Decoherence,
 }
 
 // A letter and its power of i.
-#[derive(Drop)]
+#[derive(Clone, Copy)]
 pub enum LetterAnswer {
     Letter(u8, u8),
     Refused(Refusal),

@@ -7,7 +7,7 @@ ghost use Rattle.letters.specs.Answers.{other};
 use crate::Kind;
 
 // A letter times i to a power.
-#[derive(Drop)]
+#[derive(Clone, Copy)]
 pub(crate) struct Scaled {
     pub letter: u8,
     pub power: u8,

@@ -1,4 +1,6 @@
 // Whether the masks of a product, or of a pair of products, are new among the first n of a list, helped by marks of the masks seen.
+#![tactic(auto)]
+
 ghost use Rattle.std.specs.Prelude.{◌≡◌, not, ◌≤◌, min, eqb, get_or};
 ghost use Rattle.letters.specs.Tests.{every};
 ghost use Rattle.terms.specs.Setting.{most_terms};

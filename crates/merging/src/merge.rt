@@ -10,14 +10,14 @@ use items::{CAPACITY, HIGHEST_SITE, Items, Site, wide};
 use letters::{Kind, LetterAnswer};
 
 // The letter and the power of i of a site that both products occupy.
-#[derive(Drop)]
+#[derive(Clone, Copy)]
 struct SharedLetter {
     pub letter: u8,
     pub power: u8,
 }
 
 // A product times i to a power.
-#[derive(Drop)]
+#[derive(Clone, Copy)]
 pub(crate) struct ScaledItems {
     pub power: u8,
     pub items: Items,

@@ -1,2 +1,4 @@
 // Noise sets: pairs of decoherence products with complex coefficients.
+#![tactic(auto)]
+
 pub mod pauli_noise_operator;

@@ -17,18 +17,18 @@ use products::decoherence_product::DecoherenceProduct;
 use refusal::Outcome;
 use term_sets::{GetAnswer, SetAnswer};
 
-#[derive(Drop)]
+#[derive(Clone, Copy)]
 pub struct PauliLindbladNoiseOperator {
     pub set: NoiseSet,
 }
 
-#[derive(Drop)]
+#[derive(Clone, Copy)]
 pub struct NoiseOperatorAfterSet {
     pub answer: SetAnswer,
     pub operator: PauliLindbladNoiseOperator,
 }
 
-#[derive(Drop)]
+#[derive(Clone, Copy)]
 pub struct NoiseOperatorAnswer {
     pub outcome: Outcome,
     pub operator: PauliLindbladNoiseOperator,

@@ -1,4 +1,6 @@
 // A noise set's products moved to other sites.
+#![tactic(auto)]
+
 ghost use Rattle.std.specs.Prelude.{◌≡◌};
 ghost use Rattle.items.specs.Lists.{at};
 ghost use Rattle.noise_sets.specs.Answers.{told};

@@ -1,4 +1,6 @@
 // A set of noise terms, pairs of decoherence products with a complex coefficient: the first `count` places hold terms, zero records stand past them.
+#![tactic(auto)]
+
 ghost use Rattle.std.specs.Prelude.{◌≡◌, [], map};
 ghost use Rattle.noise_sets.specs.Pairs.{blank, filled, pair_terms, held_by, valid_set};
 ghost use Rattle.terms.specs.Setting.{keyed, coefficient_at};
@@ -16,26 +18,26 @@ use refusal::{Outcome, Refusal};
 use term_sets::{GetAnswer, SetAnswer, held_count};
 use terms::MOST_TERMS;
 
-#[derive(Drop)]
+#[derive(Clone, Copy)]
 pub struct NoiseTerm {
     pub left: Items,
     pub right: Items,
     pub coefficient: Complex,
 }
 
-#[derive(Drop)]
+#[derive(Clone, Copy)]
 pub struct NoiseSet {
     pub count: usize,
     pub terms: [NoiseTerm; MOST_TERMS],
 }
 
-#[derive(Drop)]
+#[derive(Clone, Copy)]
 pub struct NoiseSetAfterSet {
     pub answer: SetAnswer,
     pub set: NoiseSet,
 }
 
-#[derive(Drop)]
+#[derive(Clone, Copy)]
 pub struct NoiseSetAnswer {
     pub outcome: Outcome,
     pub set: NoiseSet,

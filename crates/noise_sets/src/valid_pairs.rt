@@ -15,7 +15,7 @@ use marks::{is_new_pair_marked, pair_mark_of};
 use terms::MOST_TERMS;
 
 // What number 0 says of a noise set; of a valid one its count, and each term's masks and coefficient.
-#[derive(Drop)]
+#[derive(Clone, Copy)]
 pub struct PairMasks {
     pub valid: bool,
     pub count: usize,
@@ -72,7 +72,7 @@ fn good_parts(left: bool, right: bool, p: Items, q: Items, c: Complex) -> bool
 }
 
 // Whether it is, and the masks of its products, where number 0 lets them pass.
-#[derive(Drop)]
+#[derive(Clone, Copy)]
 struct PairVerdict {
     good: bool,
     left: u64,

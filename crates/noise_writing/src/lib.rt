@@ -1,4 +1,6 @@
 // One term written into a noise set: set or added under a key, or struck out; and whether what a set holds is in range.
+#![tactic(auto)]
+
 ghost use Rattle.std.specs.Prelude.{◌≡◌, cond};
 ghost use Rattle.noise_sets.specs.Pairs.{held_by, filled, pair_terms};
 ghost use Rattle.terms.specs.Setting.{write, has_room};
@@ -39,7 +41,7 @@ pub fn without(s: NoiseSet, at: usize) -> NoiseSet
 }
 
 // A set, and whether there was room for what was to be put into it.
-#[derive(Drop)]
+#[derive(Clone, Copy)]
 struct Written {
     pub room: bool,
     pub set: NoiseSet,

@@ -1,4 +1,6 @@
 // Rows of open systems in f64; and of noise, which share their contributions.
+#![tactic(auto)]
+
 ghost use Rattle.std.specs.Prelude.{List, ◌*◌, ◌^◌, ◌≤◌};
 ghost use Rattle.refusal.specs.Refusals.{gives};
 ghost use Rattle.row_entries.specs.Answers.{most_spins};

@@ -1,4 +1,6 @@
 // Open systems: a Hamiltonian with noise, grouped.
+#![tactic(auto)]
+
 ghost use Rattle.std.specs.Prelude.{◌≡◌};
 ghost use Rattle.open_system.specs.Grouping.{empty_system, group_answer, told_system};
 
@@ -6,14 +8,14 @@ use hamiltonians::pauli_hamiltonian::PauliHamiltonian;
 use noise::pauli_noise_operator::PauliLindbladNoiseOperator;
 use refusal::{Outcome, Refusal};
 
-#[derive(Drop)]
+#[derive(Clone, Copy)]
 pub struct PauliLindbladOpenSystem {
     pub system: PauliHamiltonian,
     pub noise: PauliLindbladNoiseOperator,
 }
 
 // A system, and whether number 0 lets its parts pass.
-#[derive(Drop)]
+#[derive(Clone, Copy)]
 pub struct OpenSystemAnswer {
     pub outcome: Outcome,
     pub system: PauliLindbladOpenSystem,

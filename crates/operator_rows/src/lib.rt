@@ -1,4 +1,6 @@
 // Rows of operators and Hamiltonians, and of their commutators.
+#![tactic(auto)]
+
 ghost use Rattle.std.specs.Prelude.{true, false, ◌≡◌, ◌^◌, ◌*◌};
 ghost use Rattle.refusal.specs.Refusals.{gives};
 ghost use Rattle.letters.specs.Matrices.{letters_of};

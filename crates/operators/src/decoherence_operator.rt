@@ -14,18 +14,18 @@ use products::decoherence_product::DecoherenceProduct;
 use refusal::Outcome;
 use term_sets::{GetAnswer, SetAnswer, TermSet};
 
-#[derive(Drop)]
+#[derive(Clone, Copy)]
 pub struct DecoherenceOperator {
     pub terms: TermSet,
 }
 
-#[derive(Drop)]
+#[derive(Clone, Copy)]
 pub struct DecoherenceOperatorAfterSet {
     pub answer: SetAnswer,
     pub operator: DecoherenceOperator,
 }
 
-#[derive(Drop)]
+#[derive(Clone, Copy)]
 pub struct DecoherenceOperatorAnswer {
     pub outcome: Outcome,
     pub operator: DecoherenceOperator,

@@ -15,18 +15,18 @@ use products::pauli_product::PauliProduct;
 use refusal::Outcome;
 use term_sets::{GetAnswer, SetAnswer, TermSet};
 
-#[derive(Drop)]
+#[derive(Clone, Copy)]
 pub struct PauliOperator {
     pub terms: TermSet,
 }
 
-#[derive(Drop)]
+#[derive(Clone, Copy)]
 pub struct PauliOperatorAfterSet {
     pub answer: SetAnswer,
     pub operator: PauliOperator,
 }
 
-#[derive(Drop)]
+#[derive(Clone, Copy)]
 pub struct PauliOperatorAnswer {
     pub outcome: Outcome,
     pub operator: PauliOperator,

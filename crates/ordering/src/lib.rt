@@ -1,4 +1,6 @@
 // The order of products.
+#![tactic(auto)]
+
 ghost use Rattle.std.specs.Prelude.{◌≡◌, ◌≤◌, ◌<◌, take};
 ghost use Rattle.ordering.specs.Orders.{compare_numbers, ordering, compare_lists, and_then, pairs, compare_items, said_order, compare_answer};
 ghost use Rattle.items.specs.Record.{capacity};
@@ -10,7 +12,7 @@ use letters::Kind;
 use refusal::Refusal;
 
 // How a first value stands to a second one.
-#[derive(Drop)]
+#[derive(Clone, Copy)]
 pub(crate) enum Ordering {
     Less,
     Equal,
@@ -131,7 +133,7 @@ pub fn compare(kind: Kind, p: Items, q: Items) -> Compared
 }
 
 // How a first product stands to a second one.
-#[derive(Drop)]
+#[derive(Clone, Copy)]
 pub enum Compared {
     Less,
     Equal,

@@ -1,4 +1,6 @@
 // The site that refuses a row call under 8: the first product with a site at the spin count or above, by its highest site.
+#![tactic(auto)]
+
 ghost use Rattle.std.specs.Prelude.{◌≡◌};
 ghost use Rattle.refusal.specs.Refusals.{carried};
 ghost use Rattle.rows.specs.Calls.{outside};

@@ -1,4 +1,6 @@
 // Conjugation and conversion of a product: the letters stay, and a power of i comes in front.
+#![tactic(auto)]
+
 ghost use Rattle.std.specs.Prelude.{◌≡◌, true, ◌<◌, ◌%◌};
 ghost use Rattle.letters.specs.Single.{power_of};
 ghost use Rattle.phases.specs.Changes.{changed};
@@ -14,7 +16,7 @@ use letters::{Kind, LetterAnswer};
 use refusal::{Outcome, Refusal};
 
 // What is done to each letter of a product of the kind given.
-#[derive(Drop)]
+#[derive(Clone, Copy)]
 pub(crate) enum Change {
     Conjugate(Kind),
     Convert(Kind),

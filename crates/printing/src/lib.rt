@@ -1,4 +1,6 @@
 // The entries of an exact row, printed: what `worked` and `example` write.
+#![tactic(auto)]
+
 ghost use Rattle.std.specs.Prelude.{◌≡◌, min, nat_abs};
 ghost use Rattle.rows.specs.Buffers.{most_entries};
 

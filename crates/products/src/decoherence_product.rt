@@ -20,19 +20,19 @@ use ordering::Compared;
 use refusal::{Outcome, Refusal};
 use row_entries::ItemsRow;
 
-#[derive(Drop)]
+#[derive(Clone, Copy)]
 pub struct DecoherenceProduct {
     pub items: Items,
 }
 
-#[derive(Drop)]
+#[derive(Clone, Copy)]
 pub struct DecoherenceAnswer {
     pub outcome: Outcome,
     pub product: DecoherenceProduct,
 }
 
 // A product and the power of i in front of it.
-#[derive(Drop)]
+#[derive(Clone, Copy)]
 pub struct DecoherenceWithPower {
     pub outcome: Outcome,
     pub power: u8,
@@ -40,7 +40,7 @@ pub struct DecoherenceWithPower {
 }
 
 // The entry of a row that is not zero: its column and its factor.
-#[derive(Drop)]
+#[derive(Clone, Copy)]
 pub enum ProductRow {
     Entry(u64, Complex),
     Refused(Refusal),

@@ -16,19 +16,19 @@ use letters::Kind;
 use ordering::Compared;
 use refusal::Outcome;
 
-#[derive(Drop)]
+#[derive(Clone, Copy)]
 pub struct PauliProduct {
     pub items: Items,
 }
 
-#[derive(Drop)]
+#[derive(Clone, Copy)]
 pub struct PauliAnswer {
     pub outcome: Outcome,
     pub product: PauliProduct,
 }
 
 // A product and the power of i in front of it.
-#[derive(Drop)]
+#[derive(Clone, Copy)]
 pub struct PauliWithPower {
     pub outcome: Outcome,
     pub power: u8,

@@ -1,9 +1,11 @@
 // The refusals of document 01's table, and what an entry that only does or refuses answers.
+#![tactic(auto)]
+
 ghost use Rattle.std.specs.Prelude.{◌≡◌};
 ghost use Rattle.refusal.specs.Refusals.{number, site_of, carried};
 
 // Why a call is refused. The numbers are `number`'s, in the order of the table.
-#[derive(Drop)]
+#[derive(Clone, Copy)]
 pub enum Refusal {
     // 0: a record handed in that the entries never make.
     Malformed,
@@ -32,14 +34,14 @@ pub enum Refusal {
 }
 
 // The site that a refusal carries.
-#[derive(Drop)]
+#[derive(Clone, Copy)]
 pub enum Carried {
     Site(usize),
     Nothing,
 }
 
 // What an entry answers that hands a record back beside it.
-#[derive(Drop)]
+#[derive(Clone, Copy)]
 pub enum Outcome {
     Done,
     Refused(Refusal),

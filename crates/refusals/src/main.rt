@@ -1,4 +1,6 @@
 // Runs the table of standard input: a case on each line, called and printed with its number. tests/refusals makes the table.
+#![tactic(auto)]
+
 mod chain_calls;
 mod noise_calls;
 mod product_calls;

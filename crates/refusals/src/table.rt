@@ -2,7 +2,7 @@
 use crate::{chain_calls, noise_calls, product_calls, row_calls, set_calls, single_letters};
 
 // What stands next in the input.
-#[derive(Drop)]
+#[derive(Clone, Copy)]
 pub(crate) enum Next {
     Byte(u8),
     End,
@@ -17,7 +17,7 @@ pub(crate) fn next_byte() -> Next {
 }
 
 // A line as far as it is read: whether its name has begun, the number that is being read and those before it.
-#[derive(Drop)]
+#[derive(Clone, Copy)]
 pub(crate) struct Line {
     pub named: bool,
     pub number: u64,

@@ -1,4 +1,6 @@
 // The entries of a row that are not zero, found from masks: columns and powers of i, of a product's matrix and of a superoperator.
+#![tactic(auto)]
+
 ghost use Rattle.std.specs.Prelude.{◌≡◌, [], ◌∷◌, ◌^◌, min, ℕ, ◌*◌, ◌+◌, ◌%◌, ◌<◌};
 ghost use Rattle.std.specs.Int.Count.{ones};
 ghost use Rattle.std.specs.Int.Bits.{bit_and};
@@ -16,7 +18,7 @@ use refusal::Refusal;
 pub const MOST_SPINS: u32 = 31;
 
 // The entry of a row that is not zero: its column and its power of i.
-#[derive(Drop)]
+#[derive(Clone, Copy)]
 pub enum ItemsRow {
     Entry(u64, u8),
     Refused(Refusal),
@@ -34,7 +36,7 @@ pub fn size_of(spins: u32) -> u64
 }
 
 // A column and a power of i.
-#[derive(Drop)]
+#[derive(Clone, Copy)]
 pub struct Entry {
     pub column: u64,
     pub power: u8,
@@ -86,14 +88,14 @@ pub fn row(kind: Kind, p: Items, spins: u32, row: u64) -> ItemsRow
 }
 
 // What a term of a Hamiltonian contributes: its left half and its right half.
-#[derive(Drop)]
+#[derive(Clone, Copy)]
 pub struct CommutatorEntries {
     pub left: Entry,
     pub right: Entry,
 }
 
 // What a pair of noise contributes: L on the left with R on the right, and R† L on the left half and on the right.
-#[derive(Drop)]
+#[derive(Clone, Copy)]
 pub struct NoiseEntries {
     pub jump: Entry,
     pub left: Entry,

@@ -1,4 +1,6 @@
 // Runs an open system's row at its limits, and prints one line for each case.
+#![tactic(auto)]
+
 mod report;
 mod systems;
 

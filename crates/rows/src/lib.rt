@@ -1,4 +1,6 @@
 // Rows from contributions: sorted by column, added up, delivered into lent buffers.
+#![tactic(auto)]
+
 ghost use Rattle.std.specs.Prelude.{◌≡◌, ◌++◌, ◌+◌, ◌≤◌, leb, length, take, drop};
 ghost use Rattle.refusal.specs.Refusals.{gives};
 ghost use Rattle.rows.specs.Floats.{floats};
@@ -15,7 +17,7 @@ use sorting::least;
 use sums::collected;
 
 // The count of the entries delivered.
-#[derive(Drop)]
+#[derive(Clone, Copy)]
 pub enum Delivery {
     Count(usize),
     Refused(Refusal),

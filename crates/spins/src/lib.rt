@@ -1,4 +1,5 @@
 // The entries of document 01 and the types that they take and answer, by one name each. Nothing else is here, and no function.
+#![tactic(auto)]
 
 // Refusals and their numbers.
 pub use refusal::{Carried, Outcome, Refusal};

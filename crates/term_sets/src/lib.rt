@@ -1,4 +1,6 @@
 // A set of terms with complex coefficients: the first `count` places hold terms, zero records stand past them.
+#![tactic(auto)]
+
 ghost use Rattle.std.specs.Prelude.{◌≡◌, [], map, min};
 ghost use Rattle.term_sets.specs.Complexes.{blank, filled, complex_terms, held_by, valid_set};
 ghost use Rattle.terms.specs.Setting.{most_terms, keyed, coefficient_at};
@@ -14,40 +16,40 @@ use items::Items;
 use refusal::{Outcome, Refusal};
 use terms::MOST_TERMS;
 
-#[derive(Drop)]
+#[derive(Clone, Copy)]
 pub struct Term {
     pub items: Items,
     pub coefficient: Complex,
 }
 
-#[derive(Drop)]
+#[derive(Clone, Copy)]
 pub struct TermSet {
     pub count: usize,
     pub terms: [Term; MOST_TERMS],
 }
 
 // What a key's coefficient is.
-#[derive(Drop)]
+#[derive(Clone, Copy)]
 pub enum GetAnswer {
     Coefficient(Complex),
     Refused(Refusal),
 }
 
 // What was under a key before: the two parts of its coefficient, or nothing.
-#[derive(Drop)]
+#[derive(Clone, Copy)]
 pub enum SetAnswer {
     Replaced(f64, f64),
     WasFree,
     Refused(Refusal),
 }
 
-#[derive(Drop)]
+#[derive(Clone, Copy)]
 pub struct TermSetAfterSet {
     pub answer: SetAnswer,
     pub set: TermSet,
 }
 
-#[derive(Drop)]
+#[derive(Clone, Copy)]
 pub struct TermSetAnswer {
     pub outcome: Outcome,
     pub set: TermSet,

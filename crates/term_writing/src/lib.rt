@@ -1,4 +1,6 @@
 // One term written into a set with complex coefficients: set or added under a key, or struck out.
+#![tactic(auto)]
+
 ghost use Rattle.std.specs.Prelude.{◌≡◌, cond};
 ghost use Rattle.term_sets.specs.Complexes.{held_by, filled, complex_terms};
 ghost use Rattle.terms.specs.Setting.{write, has_room};
@@ -38,7 +40,7 @@ pub fn without(s: TermSet, at: usize) -> TermSet
 }
 
 // A set, and whether there was room for what was to be put into it.
-#[derive(Drop)]
+#[derive(Clone, Copy)]
 struct Written {
     pub room: bool,
     pub set: TermSet,

@@ -1,4 +1,6 @@
 // Whether the coefficients of a set are whole, and their whole parts.
+#![tactic(auto)]
+
 ghost use Rattle.std.specs.Prelude.{◌≡◌};
 ghost use Rattle.complex.specs.Wholes.{parts_of, is_whole, both_whole};
 ghost use Rattle.terms.specs.Keyed.{each};

@@ -1,5 +1,7 @@
 // Prints the exact rows of the Hamiltonian 3 Z0 with the noise (X0, X0), 2, over one spin: a header with the spins and how many entries there
 // are, and for each entry a line with row, column, real halves and imaginary halves.
+#![tactic(auto)]
+
 mod report;
 mod system;
 
