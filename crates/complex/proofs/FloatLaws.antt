@@ -4,7 +4,7 @@ use Prim.Native.Nat.{ℕ, ◌+◌, ◌*◌, ◌^◌, ◌<◌}
 use native.Mathlib.Nat.{mul-one, one-mul, mul-pos}
 use native.Mathlib.Omega.{arith}
 use mathlib.Core.Path.{◌≡◌, refl, sym, ◌∙◌}
-use mathlib.Core.Bool.{Bool, true, false, ◌&&◌, ◌||◌, and_true, true≢false}
+use mathlib.Core.Bool.{Bool, true, false, ◌&&◌, ◌||◌, and-true, true≢false}
 use lib.Dec.{leb, ltb, eqb}
 use lib.IntN.{ℤ, pos}
 use lib.Pow.{pow_pos}
@@ -65,9 +65,9 @@ module _ (k : ℕ) where
 -- a real number, with the imaginary part +0, is in range where that number is
 pub in_range_real : (x : Float) → in_range (record { re = x; im = plus_zero }) ≡ part_in_range x
 unfolding in_range part_in_range at_most of_bits
-in_range_real x = and_true (part_in_range x)
+in_range_real x = and-true (part_in_range x)
 
 -- a real number is zero where its real part is
 pub is_zero_real : (x : Float) → is_zero (record { re = x; im = plus_zero }) ≡ eq x plus_zero
 unfolding is_zero eq of_bits
-is_zero_real x = and_true (eq x plus_zero)
+is_zero_real x = and-true (eq x plus_zero)

@@ -3,7 +3,7 @@ use Prim.Native.Nat.{ℕ, zero, suc, ◌+◌, ◌-◌, ◌*◌, ◌/◌, ◌%◌
 use native.Mathlib.Nat.{one-mul, mul_assoc, mul_comm, mul-le-mul, mul-pos, zero-mul, mod-eq_of_lt, le-div_iff_mul-le, le_refl, le_trans, lt_of_lt_of_le, lt_irrefl}
 use native.Mathlib.Omega.{arith}
 use mathlib.Core.Path.{◌≡◌, refl, sym, ap, ◌∙◌, subst}
-use mathlib.Core.Bool.{Bool, true, false, not, cond, and_false}
+use mathlib.Core.Bool.{Bool, true, false, not, cond, and-false}
 use mathlib.Core.Option.{none, some, map}
 use lib.Dec.{T, leb, eqb}
 use lib.IntN.{pos, neg_ℤ}
@@ -28,7 +28,7 @@ fraction_rest most s a b h = rw (ne_eqb (a % b) 0 h)
 
 pub fraction_over : (most : ℕ) (s : Bool) (a b : ℕ) → leb (a / b) (2 ^ most) ≡ false → whole_fraction most s a b ≡ none
 unfolding whole_fraction
-fraction_over most s a b h = rw (h, and_false (eqb (a % b) 0))
+fraction_over most s a b h = rw (h, and-false (eqb (a % b) 0))
 
 -- ---- the sign bit
 

@@ -7,11 +7,11 @@ use Rattle.complex.specs.declared.Complex.{Complex}
 use Rattle.complex.specs.declared.whole.WholePart.{WholePart}
 use Rattle.complex.specs.declared.whole.WholePart.TheVariants.{Parts, NotWhole}
 
--- "whole": a multiple of 1 / 2 ^ grainPower
+-- "whole": a multiple of 1 / 2 ^ grain_power
 abbrev pub grain_power : ℕ
 grain_power = 0
 
--- "over 2^40": more than 2 ^ mostPartsPower such parts
+-- "over 2^40": more than 2 ^ most_parts_power such parts
 abbrev pub most_parts_power : ℕ
 most_parts_power = 40
 

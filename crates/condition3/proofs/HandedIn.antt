@@ -3,7 +3,7 @@
 use Prim.Native.Nat.{◌≤◌, ◌<◌}
 use native.Mathlib.Omega.{arith}
 use mathlib.Core.Path.{◌≡◌, refl, sym, ap, subst, ◌∙◌}
-use mathlib.Core.Bool.{Bool, true, false, not, ◌||◌, ◌&&◌, or_true, true≢false}
+use mathlib.Core.Bool.{Bool, true, false, not, ◌||◌, ◌&&◌, or-true, true≢false}
 use mathlib.Core.List.{List, [], ◌∷◌, ◌++◌, map, append-nil, append_assoc}
 use lib.Ieee.{eq}
 use lib.ListN.{length, length-append}
@@ -77,7 +77,7 @@ module _ {K N : Type 0} (S : Terms K N) where
 
   pub room_for_new : (k : K) (a : N) (l : List S.Term) → length l < most_terms → has_room S k a l ≡ true
   unfolding has_room
-  room_for_new k a l few = rw (lt-ltb (length l) most_terms few) (ap (λ b. S.is_zero a || b) (or_true (has (keyed S k) l)) ∙ or_true (S.is_zero a))
+  room_for_new k a l few = rw (lt-ltb (length l) most_terms few) (ap (λ b. S.is_zero a || b) (or-true (has (keyed S k) l)) ∙ or-true (S.is_zero a))
 
   -- ---- what a term in a list has
 

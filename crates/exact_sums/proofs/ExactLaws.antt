@@ -19,7 +19,7 @@ use Rattle.rows.specs.Placing.{row_in}
 use Rattle.sorted_lists.specs.Sorting.{All, sorted, up_to}
 use Rattle.rows.specs.Buffers.{most_entries, value_in, entries_in}
 use Rattle.master_equation.specs.Numbers.{halves}
-use Rattle.exact_sums.specs.ExactSums.{whole, whole_parts, exact_entries, within, largest_contribution, all_small, exact_answer, ExactCall}
+use Rattle.exact_sums.specs.ExactSums.{whole_parts, exact_entries, within, largest_contribution, all_small, exact_answer, ExactCall}
 use Rattle.rows.proofs.ArrayLaws.{Faithful, length-entries_in}
 use Rattle.sorted_lists.proofs.SortLaws.{all_sorted}
 use Rattle.sorted_lists.proofs.RunLaws.{all_append}

@@ -9,13 +9,21 @@ use Rattle.complex.specs.Complex.{product_of, conjugate_of}
 use Rattle.complex.specs.declared.Complex.{Complex}
 use Rattle.terms.specs.Keyed.{concat_map}
 use Rattle.terms.specs.Chains.{full_terms}
+use Rattle.terms.specs.Setting.{add_all}
 use Rattle.terms.proofs.NestedLaws.{map-concat_map, concat_map-same}
+use Rattle.term_sets.specs.Complexes.{held_by as termsOf}
 use Rattle.term_sets.specs.declared.Term.{Term}
-use Rattle.noise_sets.specs.Pairs.{pair_of, is_empty}
+use Rattle.term_sets.specs.declared.TermSet.{TermSet}
+use Rattle.noise_sets.specs.Pairs.{pair_terms, pair_of, is_empty, held_by}
 use Rattle.noise_sets.specs.Answers.{empty_side}
 use Rattle.noise_sets.specs.declared.NoiseTerm.{NoiseTerm}
+use Rattle.noise_sets.specs.declared.NoiseSet.{NoiseSet}
 use Rattle.noise_sets.proofs.ValidLaws.{neither}
 use Rattle.full_operators.specs.FullAnswers.{pairs_of}
+
+-- what the chain gives
+abbrev pub wanted : NoiseSet → TermSet → TermSet → Complex → Said (List NoiseTerm)
+wanted s l r v = add_all pair_terms (map gives (pairs_of v (termsOf l) (termsOf r))) (held_by s)
 
 -- the pair of a left term and a right one
 abbrev pair_term : Complex → Term → Term → NoiseTerm

@@ -1,7 +1,7 @@
 -- Laws of `support` and of `padded`: their lengths, their elements, and one step more of each.
 -- Assumes nothing.
 use mathlib.Core.Path.{◌≡◌, refl, sym, ap, ◌∙◌, subst}
-use mathlib.Core.List.{List, [], ◌∷◌, ◌++◌, map, append-nil, map_append}
+use mathlib.Core.List.{List, [], ◌∷◌, ◌++◌, map, append-nil, map-append}
 use mathlib.Core.Bool.{Bool, true, false, cond}
 use mathlib.Core.Logic.{⊎_elim, ◌⊎◌}
 use Prim.Native.Nat.{ℕ, zero, suc, ◌+◌, ◌-◌, ◌≤◌, ◌<◌}
@@ -51,9 +51,9 @@ pub map-support_ext : (f g : ℕ → ℕ) (n : ℕ) → ((k : ℕ) → k < n →
 unfolding support
 map-support_ext f g zero h = refl
 map-support_ext f g (suc n) h =
-    rw (map_append f)
+    rw (map-append f)
     (rw (map-support_ext f g n (λ k l. h k (omega arith)))
-    (rw (map_append g) (ap (λ (l : List ℕ). map g (support f n) ++ l) (go (ltb 0 (f n)) (h n (omega arith))))))
+    (rw (map-append g) (ap (λ (l : List ℕ). map g (support f n) ++ l) (go (ltb 0 (f n)) (h n (omega arith))))))
   where
     go : (b : Bool) → f n ≡ g n → map f (cond b (n ∷ []) []) ≡ map g (cond b (n ∷ []) [])
     go true e = rw e

@@ -1,5 +1,5 @@
 -- The letters of a record as two masks of bits in one number: X turns its site's bit over, Z gives a sign where that bit is 1, Y does both.
--- Defined for every record; of a valid one (MaskLaws: `Flips-masked`, `signs_masked`) each letter has its site's bits.
+-- Defined for every record; of a valid one (MaskLaws: `flips_masked`, `signs_masked`) each letter has its site's bits.
 use Rattle.std.specs.Prelude.{ℕ, zero, suc, ◌+◌, ◌*◌, ◌/◌, ◌%◌, ◌^◌, min, List, cond, eqb}
 use Rattle.std.specs.Int.Bits.{bit_xor}
 use Rattle.items.specs.Lists.{at}

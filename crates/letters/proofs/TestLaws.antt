@@ -64,7 +64,7 @@ every_false n p s l h = go (every n p) refl
     go false e = e
     go true e = absurd (true≢false (sym (every-at n p e s l) ∙ h))
 
--- ---- firstFrom
+-- ---- first_from
 
 pub first_at_lem : (p : ℕ → Bool) (n i s : ℕ) → i ≤ s → s < i + n → ((k : ℕ) → i ≤ k → k < s → p k ≡ false) → p s ≡ true → first_from p n i ≡ s
 unfolding first_from

@@ -3,7 +3,7 @@
 -- Assumes nothing.
 use mathlib.Core.Path.{◌≡◌, sym, ap, ◌∙◌}
 use mathlib.Core.Logic.{⊎_elim}
-use mathlib.Core.List.{[], ◌∷◌, ◌++◌, map, map_append}
+use mathlib.Core.List.{[], ◌∷◌, ◌++◌, map, map-append}
 use Prim.Native.Nat.{ℕ, suc, ◌+◌, ◌≤◌, ◌<◌}
 use native.Mathlib.Numerals.{add-one}
 use native.Mathlib.Decide.{dec_lt}
@@ -31,7 +31,7 @@ push_next f s t h =
     let l = support f s in
     let fits = length-support f s in
     let e : l ++ (s ∷ []) ≡ support f (suc s) = sym (support_in f s h) ∙ ap (support f) (add-one s) in
-    let m : map f l ++ (f s ∷ []) ≡ map f (support f (suc s)) = sym (map_append f l (s ∷ [])) ∙ ap (map f) e in
+    let m : map f l ++ (f s ∷ []) ≡ map f (support f (suc s)) = sym (map-append f l (s ∷ [])) ∙ ap (map f) e in
     let lm : length (map f l) ≡ length l = length-map l f in
     let c : length l + 1 ≡ length (support f (suc s)) = sym (length-append l (s ∷ [])) ∙ ap length e in
     let a : set (padded capacity l) (length l) s ≡ padded capacity (support f (suc s)) =

@@ -2,17 +2,25 @@
 -- Assumes nothing.
 use Prim.Native.Nat.{ℕ}
 use mathlib.Core.Path.{◌≡◌, sym, ap, ◌∙◌}
+use mathlib.Core.List.{List, [], map}
 use Rattle.refusal.specs.Refusals.{Said, gives, refuses, said, number, site_of}
 use Rattle.refusal.specs.declared.Outcome.{Outcome}
 use Rattle.refusal.specs.declared.Refusal.{Refusal}
 use Rattle.remapping.specs.Targets.{remap_answer}
 use Rattle.items.specs.Answers.{told as toldItems}
+use Rattle.items.specs.Lists.{at}
 use Rattle.items.specs.declared.Items.{Items}
 use Rattle.items.specs.declared.ItemsAnswer.{ItemsAnswer}
+use Rattle.terms.specs.Setting.{add_all}
 use Rattle.terms.specs.Chains.{and_then, given}
-use Rattle.noise_sets.specs.Pairs.{pair_of}
+use Rattle.noise_sets.specs.Pairs.{pair_terms, pair_of, held_by}
 use Rattle.noise_sets.specs.declared.NoiseTerm.{NoiseTerm}
+use Rattle.noise_sets.specs.declared.NoiseSet.{NoiseSet}
 use Rattle.noise_remapping.specs.RemapAnswers.{remap_step}
+
+-- what the chain gives
+abbrev pub wanted : List ℕ → NoiseSet → Said (List NoiseTerm)
+wanted targets s = add_all pair_terms (map (remap_step (at targets)) (held_by s)) []
 
 module _ (t : ℕ → ℕ) (x : NoiseTerm) where
   -- the left product is refused

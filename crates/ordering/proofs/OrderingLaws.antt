@@ -1,23 +1,20 @@
 -- What the code knows of an ordering: in the arm that is not `Equal` the order is not `equal`, and the first ordering that is not decides.
 -- Assumes nothing.
-use mathlib.Core.Path.{◌≡◌, sym, ◌∙◌, ap}
-use mathlib.Core.Logic.{◌⊎◌, ⊎_elim}
+use mathlib.Core.Path.{◌≡◌, refl, sym, ◌∙◌, ap}
 use Prim.Native.Nat.{ℕ, ◌+◌, ◌<◌, ◌≤◌}
 use native.Mathlib.Omega.{arith}
-use denote.Enum.Declared.{tag_of}
 use Rattle.ordering.specs.Orders.{Order, equal, and_then, compare_numbers, ordering}
 use Rattle.ordering.specs.declared.Ordering.{Ordering}
-use Rattle.ordering.specs.contracts.Ordering.{the_type}
 use Rattle.ordering.proofs.ComparisonLaws.{then_decided, numbers_equal_only, first_decided, decided_more, decided_here}
 
--- an ordering of the first or of the third variant
+-- an ordering that is not `Equal`
 abbrev pub Unequal : Ordering → Type 0
-Unequal o = (tag_of the_type o ≡ 0) ⊎ (tag_of the_type o ≡ 2)
+Unequal o = o ≡ Ordering.Equal → ⊥
 
 unequal : (o : Ordering) → Unequal o → ordering o ≡ equal → ⊥
-unequal Ordering.Less h e = let z : ◌≡◌ {A = ℕ} 0 1 = cc in omega arith
-unequal Ordering.Equal h e = ⊎_elim (λ k. omega arith) (λ k. omega arith) h
-unequal Ordering.Greater h e = let z : ◌≡◌ {A = ℕ} 0 1 = cc in omega arith
+unequal Ordering.Less h e = cc
+unequal Ordering.Equal h e = h refl
+unequal Ordering.Greater h e = cc
 
 -- ---- one comparison after another
 

@@ -5,7 +5,7 @@ use native.Mathlib.Numerals.{add-one}
 use native.Mathlib.Omega.{arith}
 use mathlib.Core.Path.{◌≡◌, refl, sym, ap, ap₂, ◌∙◌}
 use mathlib.Core.Bool.{Bool, true, false, cond}
-use mathlib.Core.List.{List, [], ◌∷◌, ◌++◌, map, map_append, append_assoc}
+use mathlib.Core.List.{List, [], ◌∷◌, ◌++◌, map, map-append, append_assoc}
 use lib.ListN.{length, get_or, set, take, length-set, length-append}
 use lib.Seq.{slice, slice-cons, get_or-set_same, get_or-set_other}
 use lib.Ieee.{Float}
@@ -75,7 +75,7 @@ module _ {N X : Type 0} (P : TwoParts N X) where
   pub entries_in-map : (cs : List ℕ) (xs ys : List X) (n : ℕ) → map (entry_in P cs xs ys) (up_to n) ≡ entries_in P cs xs ys n
   unfolding entries_in up_to
   entries_in-map cs xs ys zero = refl
-  entries_in-map cs xs ys (suc n) = rw (map_append (entry_in P cs xs ys) (up_to n) (n ∷ []), entries_in-map cs xs ys n)
+  entries_in-map cs xs ys (suc n) = rw (map-append (entry_in P cs xs ys) (up_to n) (n ∷ []), entries_in-map cs xs ys n)
 
 -- in f64
 pub entries_none : (cs : List ℕ) (xs ys : List Float) → entries cs xs ys 0 ≡ []

@@ -9,7 +9,8 @@ use lib.Dec.{eqb}
 use Rattle.master_equation.specs.Numbers.{Numbers}
 use Rattle.rows.specs.Placing.{row_of, nonzero, kept_by, row_in, open_row_in}
 use Rattle.master_equation.specs.Sums.{has_column, contributions_to, sum_if_any}
-use Rattle.rows.proofs.PlacingLaws.{row_numbers, place_all-columns}
+use Rattle.rows.proofs.PlacingLaws.{place_all-columns}
+use Rattle.rows.proofs.OrderLaws.{row_numbers}
 
 -- the numbers that are not zero
 unfoldable pub without_zeros : {N : Type 0} → (N → Bool) → List N → List N

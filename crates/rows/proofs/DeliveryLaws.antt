@@ -6,8 +6,8 @@ use native.Mathlib.Nat.{not-suc-le-zero, le_of_suc-le-suc, eq-or-lt_of_le}
 use native.Mathlib.Omega.{arith}
 use mathlib.Core.Logic.{⊎_elim}
 use mathlib.Core.Path.{◌≡◌, refl, sym, ap, ◌∙◌, subst}
-use mathlib.Core.Bool.{true, false, and_false}
-use mathlib.Core.List.{List, [], ◌∷◌, ◌++◌, map, map_append}
+use mathlib.Core.Bool.{true, false, and-false}
+use mathlib.Core.List.{List, [], ◌∷◌, ◌++◌, map, map-append}
 use lib.Dec.{leb}
 use lib.ListN.{length, get_or, set, take, drop, length-set, length-map, get_or-append}
 use lib.Seq.{drop-cons, set_at, append_snoc, take-suc, take_all, get_or_at, get_or-take, ext_get_or, length-take-le}
@@ -65,7 +65,7 @@ module _ (s : List ℕ) where
   unfolding up_to
   first_at_lem zero i h = absurd (not-suc-le-zero h)
   first_at_lem (suc k) i h =
-      rw (map_append (λ i. get_or s i 0) (up_to k) (k ∷ []))
+      rw (map-append (λ i. get_or s i 0) (up_to k) (k ∷ []))
       (⊎_elim
       (λ e. rw e (get_or_at (first_numbers s k) (get_or s k 0) [] 0 k (length_first k)))
       (λ l. get_or-append (first_numbers s k) (get_or s k 0 ∷ []) 0 i (omega (arith, length_first k)) ∙ first_at_lem k i l)
@@ -104,7 +104,7 @@ parts : {N X Y : Type 0} (P : TwoParts N X) (f : ℕ × N → Y) (cs : List ℕ)
 unfolding entries_in
 parts P f cs xs ys l z zero h e = refl
 parts P f cs xs ys l z (suc n) h e =
-    rw (map_append f (entries_in P cs xs ys n) (entry_in P cs xs ys n ∷ []), parts P f cs xs ys l z n (omega arith) e, e n) (sym (take-suc l n z h))
+    rw (map-append f (entries_in P cs xs ys n) (entry_in P cs xs ys n ∷ []), parts P f cs xs ys l z n (omega arith) e, e n) (sym (take-suc l n z h))
 
 -- ---- what a call answers
 
@@ -118,10 +118,10 @@ module _ {N X : Type 0} (P : TwoParts N X) (cs : List ℕ) (xs ys : List X) (n :
   short_columns h = too_short (entries_in P cs xs ys n) a b c (rw (length-entries_in P cs xs ys n, lt-leb n (length a) h))
 
   pub short_reals : length b < n → RowCallIn P (gives (entries_in P cs xs ys n)) (refuses 10 []) a a b b c c
-  short_reals h = too_short (entries_in P cs xs ys n) a b c (rw (length-entries_in P cs xs ys n, lt-leb n (length b) h, and_false))
+  short_reals h = too_short (entries_in P cs xs ys n) a b c (rw (length-entries_in P cs xs ys n, lt-leb n (length b) h, and-false))
 
   pub short_imaginaries : length c < n → RowCallIn P (gives (entries_in P cs xs ys n)) (refuses 10 []) a a b b c c
-  short_imaginaries h = too_short (entries_in P cs xs ys n) a b c (rw (length-entries_in P cs xs ys n, lt-leb n (length c) h, and_false, and_false))
+  short_imaginaries h = too_short (entries_in P cs xs ys n) a b c (rw (length-entries_in P cs xs ys n, lt-leb n (length c) h, and-false, and-false))
 
 -- three copies of n entries, where there is room for them
 pub has_room_lem : {N X : Type 0} {P : TwoParts N X} → Faithful P → (cs : List ℕ) (xs ys : List X) (n : ℕ) → Long cs xs ys → n ≤ 320 → (a a' : List ℕ) (b b' c c' : List X)

@@ -1,5 +1,6 @@
 pub mod DeliveredColumns
 pub mod PlacingLaws
+pub mod OrderLaws
 pub mod NeighbourLaws
 pub mod ArrayLaws
 pub mod DeliveryLaws

@@ -9,7 +9,8 @@ use Rattle.rows.specs.Placing.{placed, place_all, row_of}
 use Rattle.master_equation.specs.Sums.{Ascending}
 use Rattle.sorted_lists.specs.Sorting.{Rising, inserted, sorted_onto, sorted, merged}
 use Rattle.rows.specs.Neighbours.{added_from, neighbours_added}
-use Rattle.rows.proofs.PlacingLaws.{ascending_from, row_append}
+use Rattle.rows.proofs.PlacingLaws.{ascending_from}
+use Rattle.rows.proofs.OrderLaws.{row_append}
 use Rattle.sorted_lists.proofs.SortLaws.{by_order, inserted_here, inserted_past, inserted_none, rising-inserted, sorted-rising, merged-sorted}
 
 -- the column of an entry

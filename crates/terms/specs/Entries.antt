@@ -1,4 +1,4 @@
--- What the entries on a set answer once its record and the key are judged, for any kind of terms: `inRange` judges a coefficient, R is the
+-- What the entries on a set answer once its record and the key are judged, for any kind of terms: `in_range` judges a coefficient, R is the
 -- type of the records, and `filled` makes one of terms. Refusals come first, in their order, and the record s stands beside them.
 -- Document 01, `Numbers of the no`, 5 and 6.
 use Rattle.std.specs.Prelude.{Bool, not, cond, List, [], map}

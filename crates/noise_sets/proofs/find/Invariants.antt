@@ -1,0 +1,12 @@
+-- The loop's invariant: no place below i has the key (`Searched`).
+use Prim.Native.Nat.{◌-◌}
+use Rattle.terms.specs.Setting.{keyed}
+use Rattle.noise_sets.specs.Pairs.{pair_terms}
+use Rattle.terms.proofs.PlaceLaws.{Searched}
+use Rattle.noise_sets.proofs.find.Given as goal
+
+abbrev pub invariant-loop-i : goal.invariant-loop-i
+invariant-loop-i l = Searched (keyed pair_terms (l.left, l.right)) l.s.count l.s.terms l.i
+
+abbrev pub decreases-loop-i : goal.decreases-loop-i
+decreases-loop-i l = l.n - l.i

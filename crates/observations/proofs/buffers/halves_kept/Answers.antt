@@ -1,0 +1,16 @@
+-- Each place so far has passed (`Kept`). Assumes nothing.
+use borrow.Author.Tests.{eq-eqb, ne_eqb}
+use Rattle.observations.proofs.KeptLaws.{kept_none, kept_more, kept_fails, kept_done}
+use Rattle.observations.proofs.buffers.halves_kept.Goals as goal
+
+pub loop-i-init : goal.loop-i-init
+loop-i-init c = kept_none
+
+pub returns-then-parts-i-ne-OLD_HALVES : goal.returns-then-parts-i-ne-OLD_HALVES
+returns-then-parts-i-ne-OLD_HALVES c = kept_fails c.loop-i.invariant c.loop-i-test.true (ne_eqb _ _ c.if-parts-i-ne-OLD_HALVES.true)
+
+pub loop-i-preserved : goal.loop-i-preserved
+loop-i-preserved c = kept_more c.loop-i.invariant (eq-eqb _ _ c.if-parts-i-ne-OLD_HALVES.false)
+
+pub returns : goal.returns
+returns c = kept_done c.loop-i.invariant c.loop-i-test.false

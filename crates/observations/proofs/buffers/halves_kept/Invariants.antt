@@ -1,0 +1,11 @@
+-- Each place so far has passed (`Kept`). Assumes nothing.
+use Prim.Native.Nat.{◌-◌}
+use Rattle.observations.specs.Buffers.{places, old_half}
+use Rattle.observations.proofs.KeptLaws.{Kept}
+use Rattle.observations.proofs.buffers.halves_kept.Given as goal
+
+abbrev pub invariant-loop-i : goal.invariant-loop-i
+invariant-loop-i l = Kept (old_half l.parts) l.n l.i
+
+abbrev pub decreases-loop-i : goal.decreases-loop-i
+decreases-loop-i l = places - l.i
