@@ -5,7 +5,7 @@ READS = sys.argv[1:] == ["stdin"]
 BEFORE, ANEW, BUFFERS = "; state as before", "; empty beside it", "; buffers as before"
 POWER_BEFORE, POWER_ANEW = "; power 0" + BEFORE, "; power 0" + ANEW
 
-# Parts of coefficients, as `part` in records.rt numbers them; an imaginary part counts a hundredfold.
+# Parts of coefficients, as `part` in numbers.rt numbers them; an imaginary part counts a hundredfold.
 (ZERO, ONE, MINUS, MINUS_ZERO, LIMIT, OVER, MINUS_LIMIT, MINUS_OVER, INFINITY, NAN, HALF_LIMIT, LARGE, MINUS_LARGE, ROOT, TWO, HALF,
  WHOLE, WHOLE_1, MINUS_WHOLE, MINUS_WHOLE_1, NEXT, GAP, MINUS_GAP, TINY) = range(24)
 I = 100

@@ -9,14 +9,17 @@ use mathlib.Core.Bool.{true, false, not, ◌||◌}
 use mathlib.Core.List.{List, [], ◌∷◌, ◌++◌, map, append-nil, append_assoc}
 use lib.ListN.{length, take, drop, get_or, set, replicate, length-map, length-append}
 use lib.Seq.{length-take-le, drop-cons, set_at, drop-append_seam, take-suc, take_all, get_or-take}
-use Rattle.refusal.specs.Refusals.{Said, gives}
+use Rattle.std.specs.Prelude.{Result, Ok, Err, IsOk}
+use Rattle.refusal.specs.Refusals.{Said, gives, done}
+use Rattle.refusal.specs.declared.Refusal.{Refusal}
 use Rattle.complex.specs.Complex.{product_of, conjugate_of, unit_of_I, sum_of, is_zero}
 use Rattle.complex.specs.declared.Complex.{Complex}
 use Rattle.letters.specs.Matrices.{Letters}
 use Rattle.phases.specs.Answers.{conjugate_answer, convert_answer}
 use Rattle.items.specs.Answers.{told_power}
+use Rattle.items.specs.Record.{valid, empty_product}
 use Rattle.items.specs.declared.Items.{Items}
-use Rattle.items.specs.declared.ItemsWithPower.{ItemsWithPower}
+use Rattle.items.specs.declared.ScaledItems.{ScaledItems}
 use Rattle.terms.specs.Keyed.{padded, has, each}
 use Rattle.terms.specs.Kind.{Terms}
 use Rattle.terms.specs.Setting.{most_terms, keyed, add_all}
@@ -80,32 +83,47 @@ mapped_set f s out whole own n g h =
     let p = held_own term_sets s whole own in
     filled_by term_sets out (map f (held_by s)) (n ∙ sym (length-map (held_by s) f ∙ p.long)) (mapped_done blank p g h)
 
--- ---- the terms that are put there: z is what the key became, with a power of i, u that power, and v the coefficient
+-- ---- the terms that are put there: r is what the key's change answered, z what that gives, a key with a power of i, u that power, and v the
+-- coefficient
 
-changed-term : (z : ItemsWithPower) (answer : Said Unit × (ℕ × Items)) (a u v : Complex) → told_power z ≡ answer → u ≡ unit_of_I z.power → v ≡ product_of a u
-    → term_of z.items v ≡ term_of answer.1.1 (product_of a (unit_of_I answer.1.0))
-changed-term z answer a u v says unit times =
+changed-term : (before : Items) (r : Result ScaledItems Refusal) {z : ScaledItems} (answer : Said Unit × (ℕ × Items)) (a u v : Complex) → told_power before r ≡ answer → r ≡ Ok z
+    → u ≡ unit_of_I z.power → v ≡ product_of a u → term_of z.items v ≡ term_of answer.1.1 (product_of a (unit_of_I answer.1.0))
+changed-term before r {z} answer a u v says is unit times =
     ap (λ (x : Complex). term_of z.items x) (times ∙ ap (product_of a) unit)
-    ∙ ap (λ (x : Said Unit × (ℕ × Items)). term_of x.1.1 (product_of a (unit_of_I x.1.0))) says
+    ∙ ap (λ (x : Said Unit × (ℕ × Items)). term_of x.1.1 (product_of a (unit_of_I x.1.0))) (ap (told_power before) (sym is) ∙ says)
+
+-- what says that all went well is no refusal
+not_refused : (before : Items) (r : Result ScaledItems Refusal) → (told_power before r).0 ≡ done → IsOk r
+not_refused before (Ok z) e = refl
+not_refused before (Err why) e = cc
 
 abbrev pub conjugate_term : Letters → Term → Term
 conjugate_term M x =
     let z = (conjugate_answer M x.items).1 in
     term_of z.1 (product_of (conjugate_of x.coefficient) (unit_of_I z.0))
 
-pub conjugate-term : (M : Letters) (x : Term) (z : ItemsWithPower) (a u v : Complex) → told_power z ≡ conjugate_answer M x.items → a ≡ conjugate_of x.coefficient
-    → u ≡ unit_of_I z.power → v ≡ product_of a u → term_of z.items v ≡ conjugate_term M x
-conjugate-term M x z a u v says conjugated unit times =
-    changed-term z (conjugate_answer M x.items) (conjugate_of x.coefficient) u v says unit (times ∙ ap (λ (w : Complex). product_of w u) conjugated)
+-- no valid product is refused
+pub conjugate_given : (M : Letters) (p : Items) (r : Result ScaledItems Refusal) → told_power p r ≡ conjugate_answer M p → valid p ≡ true → IsOk r
+unfolding conjugate_answer
+conjugate_given M p r says v = not_refused p r (ap (λ t. t.0) says ∙ rw v)
+
+pub conjugate-term : (M : Letters) (x : Term) (r : Result ScaledItems Refusal) {z : ScaledItems} (a u v : Complex) → told_power x.items r ≡ conjugate_answer M x.items → r ≡ Ok z
+    → a ≡ conjugate_of x.coefficient → u ≡ unit_of_I z.power → v ≡ product_of a u → term_of z.items v ≡ conjugate_term M x
+conjugate-term M x r a u v says is conjugated unit times =
+    changed-term x.items r (conjugate_answer M x.items) (conjugate_of x.coefficient) u v says is unit (times ∙ ap (λ (w : Complex). product_of w u) conjugated)
 
 abbrev pub convert_term : Letters → Letters → Term → Term
 convert_term M M' x =
     let z = (convert_answer M M' x.items).1 in
     term_of z.1 (product_of x.coefficient (unit_of_I z.0))
 
-pub convert-term : (M M' : Letters) (x : Term) (z : ItemsWithPower) (u v : Complex) → told_power z ≡ convert_answer M M' x.items
+pub convert_given : (M M' : Letters) (p : Items) (r : Result ScaledItems Refusal) → told_power empty_product r ≡ convert_answer M M' p → valid p ≡ true → IsOk r
+unfolding convert_answer
+convert_given M M' p r says v = not_refused empty_product r (ap (λ t. t.0) says ∙ rw v)
+
+pub convert-term : (M M' : Letters) (x : Term) (r : Result ScaledItems Refusal) {z : ScaledItems} (u v : Complex) → told_power empty_product r ≡ convert_answer M M' x.items → r ≡ Ok z
     → u ≡ unit_of_I z.power → v ≡ product_of x.coefficient u → term_of z.items v ≡ convert_term M M' x
-convert-term M M' x z u v says unit times = changed-term z (convert_answer M M' x.items) x.coefficient u v says unit times
+convert-term M M' x r u v says is unit times = changed-term empty_product r (convert_answer M M' x.items) x.coefficient u v says is unit times
 
 -- each coefficient times a
 abbrev pub scaled_term : Complex → Term → Term

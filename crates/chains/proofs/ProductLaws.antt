@@ -3,15 +3,15 @@
 use Prim.Native.Nat.{ℕ}
 use mathlib.Core.Path.{◌≡◌, sym, ap, ◌∙◌}
 use mathlib.Core.List.{List, [], ◌∷◌}
-use Rattle.refusal.specs.Refusals.{Said, gives, refuses, said, number, site_of}
-use Rattle.refusal.specs.declared.Outcome.{Outcome}
+use Rattle.std.specs.Prelude.{Result, Ok, Err}
+use Rattle.refusal.specs.Refusals.{Said, gives, refuses, number, site_of}
 use Rattle.refusal.specs.declared.Refusal.{Refusal}
 use Rattle.complex.specs.Complex.{product_of, unit_of_I}
 use Rattle.complex.specs.declared.Complex.{Complex}
 use Rattle.letters.specs.Matrices.{Letters}
 use Rattle.items.specs.Answers.{told_power}
 use Rattle.items.specs.declared.Items.{Items}
-use Rattle.items.specs.declared.ItemsWithPower.{ItemsWithPower}
+use Rattle.items.specs.declared.ScaledItems.{ScaledItems}
 use Rattle.merging.specs.ProductAnswers.{multiply_answer}
 use Rattle.terms.specs.Keyed.{concat_map}
 use Rattle.terms.specs.Chains.{and_then, given, times_steps}
@@ -36,22 +36,22 @@ product_step M x y = and_then (given (multiply_answer M x.items y.items)) (produ
 abbrev pub product_pair : Letters → Term → Term → List (Said Term)
 product_pair M x y = product_step M x y ∷ []
 
--- z is what multiplication answered
-module _ (M : Letters) (x y : Term) (z : ItemsWithPower) (says : told_power z ≡ multiply_answer M x.items y.items) where
-  told : product_step M x y ≡ and_then (and_then (said z.outcome) (λ u. gives (z.power, z.items))) (product_term x y)
+-- r is what multiplication answered
+module _ (M : Letters) (x y : Term) (r : Result ScaledItems Refusal) (says : told_power x.items r ≡ multiply_answer M x.items y.items) where
+  told : product_step M x y ≡ and_then (given (told_power x.items r)) (product_term x y)
   unfolding product_step
   told = ap (λ (a : Said Unit × (ℕ × Items)). and_then (given a) (product_term x y)) (sym says)
 
   -- it refused
-  pub product_refused : {why : Refusal} → z.outcome ≡ Outcome.Refused why → product_step M x y ≡ refuses (number why) (site_of why)
-  product_refused e = told ∙ ap (λ (o : Outcome). and_then (and_then (said o) (λ u. gives (z.power, z.items))) (product_term x y)) e
+  pub product_refused : {why : Refusal} → r ≡ Err why → product_step M x y ≡ refuses (number why) (site_of why)
+  product_refused e = told ∙ ap (λ (o : Result ScaledItems Refusal). and_then (given (told_power x.items o)) (product_term x y)) e
 
-  -- it gave a power of i, u, and a key; w and v are the right coefficient times u, times the left one
-  pub product-given : z.outcome ≡ Outcome.Done → (u w v : Complex) → u ≡ unit_of_I z.power → w ≡ product_of y.coefficient u → v ≡ product_of w x.coefficient
+  -- it gave z, a power of i, which is u, and a key; w and v are the right coefficient times u, times the left one
+  pub product-given : {z : ScaledItems} → r ≡ Ok z → (u w v : Complex) → u ≡ unit_of_I z.power → w ≡ product_of y.coefficient u → v ≡ product_of w x.coefficient
       → product_step M x y ≡ gives (term_of z.items v)
-  product-given e u w v unit right left =
+  product-given {z} e u w v unit right left =
       told
-      ∙ ap (λ (o : Outcome). and_then (and_then (said o) (λ u. gives (z.power, z.items))) (product_term x y)) e
+      ∙ ap (λ (o : Result ScaledItems Refusal). and_then (given (told_power x.items o)) (product_term x y)) e
       ∙ ap (λ (a : Complex). gives (term_of z.items a))
       (sym (left ∙ ap (λ (a : Complex). product_of a x.coefficient) (right ∙ ap (product_of y.coefficient) unit)))
 

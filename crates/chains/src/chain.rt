@@ -10,7 +10,6 @@ ghost use Rattle.term_sets.specs.Answers.{told};
 ghost use Rattle.chains.specs.ChainAnswers.{all_in_range, ended, product_steps, multiply_sets, conjugate_set, convert_set, scale_set};
 
 use complex::Complex;
-use items::masks::masks;
 use letters::Kind;
 use refusal::{Outcome, Refusal};
 use term_sets::{Term, TermSet, TermSetAnswer, empty_set, find, is_valid};
@@ -53,26 +52,27 @@ pub(crate) fn multiplied(kind: Kind, s: TermSet, t: TermSet, back: TermSet) -> T
             let y = t.terms[right];
             let q = y.items;
             right += 1;
-            let z = merging::multiply::multiply(kind, p, q);
-            let outcome = z.outcome;
-            if let Outcome::Refused(why) = outcome {
-                return TermSetAnswer {
-                    outcome: Outcome::Refused(why),
-                    set: back,
-                };
-            }
+            let z = match merging::multiply::multiply(kind, &p, &q) {
+                Ok(z) => z,
+                Err(why) => {
+                    return TermSetAnswer {
+                        outcome: Outcome::Refused(why),
+                        set: back,
+                    };
+                }
+            };
             let key = z.items;
             let value = y
                 .coefficient
                 .product(complex::unit_of_i(z.power))
                 .product(a);
-            let number = masks(key);
+            let number = key.masks();
             let n = out.count;
             let mut at = place_of(&numbers, n, number);
             if at < n {
                 let u = out.terms[at];
                 let held = u.items;
-                if !items::same(held, key) {
+                if held != key {
                     at = find(out, key);
                 }
             }
@@ -187,7 +187,7 @@ pub fn conjugate(kind: Kind, zeros: bool, s: TermSet) -> TermSetAnswer
     while i < n {
         let x = s.terms[i];
         let p = x.items;
-        let z = phases::conjugate(kind, p);
+        let z = phases::conjugate(kind, &p).unwrap();
         let items = z.items;
         out.terms[i] = Term {
             items: items,
@@ -217,7 +217,7 @@ pub fn convert(kind: Kind, zeros: bool, s: TermSet) -> TermSetAnswer
     while i < n {
         let x = s.terms[i];
         let p = x.items;
-        let z = phases::convert(kind, p);
+        let z = phases::convert(kind, &p).unwrap();
         let items = z.items;
         out.terms[i] = Term {
             items: items,

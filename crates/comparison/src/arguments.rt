@@ -1,159 +1,101 @@
-// Sets among the arguments, built by `set` in the order written.
-use crate::entries::{pauli_terms, set_in};
-use crate::forms::{noise_terms, terms};
-use crate::reader::{PAST, number};
-use crate::verdict::is_refused;
-use letters::Kind;
-use spins::{
-    Complex, DecoherenceProduct, NoiseSet, PauliHamiltonian, PauliLindbladNoiseOperator,
-    PauliOperator, PauliProduct, SetAnswer, TermSet,
-};
+// Sets among the arguments.
+use crate::fault::Fault;
+use crate::forms::Form;
+use crate::reader::Reader;
+use crate::sets::{Set, pauli};
+use spins::{Complex, MOST_TERMS, PauliOperator, Refusal};
+use std::marker::PhantomData;
 
-// An operator, and whether it was refused on the way.
-#[derive(Clone, Copy)]
-pub(crate) struct BuiltOperator {
-    pub set: TermSet,
-    pub refused: bool,
-    pub next: usize,
+pub(crate) trait Argument: Form {
+    type Of: Set;
+
+    fn build(&self) -> Result<Self::Of, Refusal>;
 }
 
-#[derive(Clone, Copy)]
-pub(crate) struct BuiltHamiltonian {
-    pub set: PauliHamiltonian,
-    pub refused: bool,
-    pub next: usize,
+// At most 64 terms.
+#[derive(Drop)]
+pub(crate) struct Terms<K, V> {
+    pub list: Vec<(K, V)>,
 }
 
-#[derive(Clone, Copy)]
-pub(crate) struct BuiltNoise {
-    pub operator: PauliLindbladNoiseOperator,
-    pub refused: bool,
-    pub next: usize,
-}
-
-fn set_refused(a: SetAnswer) -> bool {
-    match a {
-        SetAnswer::Replaced(_, _) => false,
-        SetAnswer::WasFree => false,
-        SetAnswer::Refused(_) => true,
-    }
-}
-
-fn built(kind: Kind, list: TermSet, next: usize) -> BuiltOperator {
-    let n = list.count;
-    let none = PauliOperator::new();
-    let mut set = none.terms;
-    let mut refused = false;
-    let mut i = 0usize;
-    while i < 64 && i < n {
-        let t = list.terms[i];
-        let key = t.items;
-        let value = t.coefficient;
-        let a = set_in(kind, set, key, value);
-        let answer = a.answer;
-        let after = a.set;
-        set = after;
-        refused = refused | set_refused(answer);
-        i += 1;
-    }
-    BuiltOperator {
-        set: set,
-        refused: refused,
-        next: next,
-    }
-}
-
-// Terms with a second part that is not zero make no Hamiltonian.
-fn built_hamiltonian(list: TermSet, end: usize) -> BuiltHamiltonian {
-    let n = list.count;
-    let mut set = PauliHamiltonian::new();
-    let mut refused = false;
-    let mut next = end;
-    let mut i = 0usize;
-    while i < 64 && i < n {
-        let t = list.terms[i];
-        let key = t.items;
-        let value = t.coefficient;
-        if value.im != 0.0 {
-            next = PAST;
+impl<K: Form, V: Form> Form for Terms<K, V> {
+    fn read(reader: &mut Reader<'_>) -> Result<Self, Fault> {
+        let list: Vec<(K, V)> = reader.read()?;
+        if MOST_TERMS < list.len() {
+            return Err(Fault::Unparsed);
         }
-        let a = set.set(PauliProduct { items: key }, value.re);
-        let answer = a.answer;
-        let after = a.set;
-        set = after;
-        refused = refused | set_refused(answer);
-        i += 1;
-    }
-    BuiltHamiltonian {
-        set: set,
-        refused: refused,
-        next: next,
+        Ok(Terms { list })
     }
 }
 
-fn built_noise(list: NoiseSet, next: usize) -> BuiltNoise {
-    let n = list.count;
-    let mut operator = PauliLindbladNoiseOperator::new();
-    let mut refused = false;
-    let mut i = 0usize;
-    while i < 64 && i < n {
-        let t = list.terms[i];
-        let left = t.left;
-        let right = t.right;
-        let value = t.coefficient;
-        let a = operator.set(
-            DecoherenceProduct { items: left },
-            DecoherenceProduct { items: right },
-            value,
-        );
-        let answer = a.answer;
-        let after = a.operator;
-        operator = after;
-        refused = refused | set_refused(answer);
-        i += 1;
-    }
-    BuiltNoise {
-        operator: operator,
-        refused: refused,
-        next: next,
+// The terms that a call on a set gives.
+pub(crate) type Told<S> = Terms<<S as Set>::Key, Complex>;
+
+// A set by its terms, built by `set` in the order written.
+#[derive(Drop)]
+pub(crate) struct Written<S: Set> {
+    terms: Terms<S::Key, S::Value>,
+}
+
+impl<S: Set> Form for Written<S> {
+    fn read(reader: &mut Reader<'_>) -> Result<Self, Fault> {
+        Ok(Written {
+            terms: reader.read()?,
+        })
     }
 }
 
-pub(crate) fn operator(kind: Kind, s: &[u8], at: usize) -> BuiltOperator {
-    let t = terms(s, at);
-    let list = t.list;
-    built(kind, list, t.next)
+impl<S: Set> Argument for Written<S> {
+    type Of = S;
+
+    fn build(&self) -> Result<S, Refusal> {
+        let mut set = S::new();
+        for (key, value) in &self.terms.list {
+            set.set(*key, *value)?;
+        }
+        Ok(set)
+    }
 }
 
-pub(crate) fn hamiltonian(s: &[u8], at: usize) -> BuiltHamiltonian {
-    let t = terms(s, at);
-    let list = t.list;
-    built_hamiltonian(list, t.next)
+// A set without terms, for which a record has no bytes.
+#[derive(Drop)]
+pub(crate) struct Empty<S> {
+    of: PhantomData<S>,
 }
 
-pub(crate) fn noise_operator(s: &[u8], at: usize) -> BuiltNoise {
-    let t = noise_terms(s, at);
-    let list = t.list;
-    built_noise(list, t.next)
+impl<S: Set> Form for Empty<S> {
+    fn read(_reader: &mut Reader<'_>) -> Result<Self, Fault> {
+        Ok(Empty { of: PhantomData })
+    }
 }
 
-// A Pauli operator times a number.
-pub(crate) fn scaled(o: BuiltOperator, value: Complex, next: usize) -> BuiltOperator {
-    let terms = o.set;
-    let a = pauli_terms(PauliOperator { terms: terms }.scale(value));
-    let outcome = a.outcome;
-    let set = a.set;
-    BuiltOperator {
-        set: set,
-        refused: o.refused | is_refused(outcome),
-        next: next,
+impl<S: Set> Argument for Empty<S> {
+    type Of = S;
+
+    fn build(&self) -> Result<S, Refusal> {
+        Ok(S::new())
     }
 }
 
 // A Pauli operator, then the number that it is multiplied by.
-pub(crate) fn scaled_pauli(s: &[u8], at: usize) -> BuiltOperator {
-    let o = operator(Kind::Pauli, s, at);
-    let z = number(s, o.next);
-    let value = z.value;
-    scaled(o, value, z.next)
+#[derive(Drop)]
+pub(crate) struct Scaled {
+    operator: Written<PauliOperator>,
+    factor: Complex,
+}
+
+impl Form for Scaled {
+    fn read(reader: &mut Reader<'_>) -> Result<Self, Fault> {
+        let operator = reader.read()?;
+        let factor = reader.read()?;
+        Ok(Scaled { operator, factor })
+    }
+}
+
+impl Argument for Scaled {
+    type Of = PauliOperator;
+
+    fn build(&self) -> Result<PauliOperator, Refusal> {
+        pauli(self.operator.build()?.scale(self.factor))
+    }
 }

@@ -1,117 +1,89 @@
-// Calls on operators, opcodes 17, 19 and 38: a verb, a key, a number and the Rust's reply each.
-use crate::answers::terms_told;
-use crate::arguments::scaled_pauli;
-use crate::entries::{add_in, get_in, set_in};
-use crate::forms::product;
-use crate::reader::{PAST, byte, number};
-use crate::replies::{ReadReply, done_compared, get_compared, reply, set_compared};
-use crate::verdict::{Verdict, refused_if, worse};
-use letters::Kind;
-use spins::{Complex, Items, PauliOperator, TermSet};
+// Calls on sets, opcodes 17 to 20 and 38: a verb, a key, a number and the Rust's reply each.
+use crate::arguments::{Argument, Empty, Scaled, Told};
+use crate::fault::Fault;
+use crate::forms::Form;
+use crate::reader::Reader;
+use crate::replies::Reply;
+use crate::sets::Set;
+use spins::{
+    Complex, DecoherenceOperator, PauliHamiltonian, PauliLindbladNoiseOperator, PauliOperator,
+    Refusal,
+};
 
-// An operator after calls on it.
 #[derive(Clone, Copy)]
-struct TermCalls {
-    pub set: TermSet,
-    pub verdict: Verdict,
-    pub next: usize,
+pub(crate) enum Call<K, V> {
+    Set(K, V),
+    Add(K, V),
+    Get(K),
 }
 
-fn set_term(kind: Kind, set: TermSet, key: Items, value: Complex, r: ReadReply) -> TermCalls {
-    let a = set_in(kind, set, key, value);
-    let answer = a.answer;
-    let after = a.set;
-    TermCalls {
-        set: after,
-        verdict: set_compared(answer, r),
-        next: r.next,
+impl<K: Form, V: Form> Form for Call<K, V> {
+    fn read(reader: &mut Reader<'_>) -> Result<Self, Fault> {
+        let (verb, key): (u8, K) = reader.read()?;
+        match verb {
+            0 => Ok(Call::Set(key, reader.read()?)),
+            1 => Ok(Call::Add(key, reader.read()?)),
+            2 => {
+                let _unused: Complex = reader.read()?;
+                Ok(Call::Get(key))
+            }
+            _ => Err(Fault::Unparsed),
+        }
     }
 }
 
-fn add_term(kind: Kind, set: TermSet, key: Items, value: Complex, r: ReadReply) -> TermCalls {
-    let a = add_in(kind, set, key, value);
-    let outcome = a.outcome;
-    let after = a.set;
-    TermCalls {
-        set: after,
-        verdict: done_compared(outcome, r),
-        next: r.next,
-    }
-}
+// A call on a set of this type.
+pub(crate) type CallOn<S> = Call<<S as Set>::Key, <S as Set>::Value>;
 
-fn get_term(kind: Kind, set: TermSet, key: Items, r: ReadReply) -> TermCalls {
-    TermCalls {
-        set: set,
-        verdict: get_compared(get_in(kind, set, key), r),
-        next: r.next,
-    }
-}
-
-fn term_call(kind: Kind, s: &[u8], at: usize, set: TermSet) -> TermCalls {
-    let verb = byte(s, at);
-    let p = product(s, verb.next);
-    let z = number(s, p.next);
-    let r = reply(s, z.next);
-    let key = p.items;
-    let value = z.value;
-    let v = verb.value;
-    match v {
-        0 => set_term(kind, set, key, value, r),
-        1 => add_term(kind, set, key, value, r),
-        2 => get_term(kind, set, key, r),
-        _ => TermCalls {
-            set: set,
-            verdict: Verdict::Same,
-            next: PAST,
+fn answer<S: Set>(set: &mut S, call: CallOn<S>) -> Result<Reply, Refusal> {
+    match call {
+        Call::Set(key, value) => match set.set(key, value)? {
+            Some(before) => Ok(Reply::Coefficient(before)),
+            None => Ok(Reply::Free),
         },
+        Call::Add(key, value) => {
+            set.add(key, value)?;
+            Ok(Reply::Done)
+        }
+        Call::Get(key) => Ok(Reply::Coefficient(set.get(key)?)),
     }
 }
 
-fn term_calls(kind: Kind, s: &[u8], at: usize, start: TermSet) -> TermCalls {
-    let count = byte(s, at);
-    let n = count.value;
-    let mut set = start;
-    let mut verdict = Verdict::Same;
-    let mut next = count.next;
-    let mut i: u8 = 0;
-    while i < n {
-        let c = term_call(kind, s, next, set);
-        let after = c.set;
-        let here = c.verdict;
-        set = after;
-        verdict = worse(verdict, here);
-        next = c.next;
-        i += 1;
-    }
-    TermCalls {
-        set: set,
-        verdict: verdict,
-        next: next,
+// The recorded difference: the coefficient of a pair with an empty side is zero in the Rust and refused with 4 here.
+fn empty_side_agrees(ours: Result<Reply, Refusal>, told: Reply) -> bool {
+    told.is_coefficient(Complex { re: 0.0, im: 0.0 }) && ours.err() == Some(Refusal::EmptySide)
+}
+
+// Makes a call; whether the set answers what the Rust replied.
+pub(crate) fn agrees<S: Set>(set: &mut S, call: CallOn<S>, told: Reply) -> Result<bool, Refusal> {
+    let ours = answer(set, call);
+    match call {
+        Call::Get(key) if S::has_empty_side(key) => Ok(empty_side_agrees(ours, told)),
+        _ => told.agrees(ours),
     }
 }
 
-fn on_operator(kind: Kind, s: &[u8], at: usize) -> Verdict {
-    let none = PauliOperator::new();
-    let c = term_calls(kind, s, at, none.terms);
-    let set = c.set;
-    let verdict = c.verdict;
-    terms_told(s, c.next, verdict, set)
+// A set, calls on it, and its terms after them.
+fn calls<A: Argument>(reader: &mut Reader<'_>) -> Result<bool, Fault> {
+    let start: A = reader.read()?;
+    let calls: Vec<(CallOn<A::Of>, Reply)> = reader.read()?;
+    let told: Told<A::Of> = reader.read()?;
+    reader.end()?;
+    let mut set = start.build()?;
+    let mut same = true;
+    for (call, reply) in &calls {
+        same &= agrees(&mut set, *call, *reply)?;
+    }
+    Ok(same && set.holds(&told.list))
 }
 
-fn on_scaled(s: &[u8], at: usize) -> Verdict {
-    let o = scaled_pauli(s, at);
-    let start = o.set;
-    let c = term_calls(Kind::Pauli, s, o.next, start);
-    let set = c.set;
-    let verdict = c.verdict;
-    terms_told(s, c.next, worse(refused_if(o.refused), verdict), set)
-}
-
-pub(crate) fn compared(op: u8, s: &[u8], at: usize) -> Verdict {
+pub(crate) fn compared(op: u8, reader: &mut Reader<'_>) -> Result<bool, Fault> {
     match op {
-        17 => on_operator(Kind::Pauli, s, at),
-        19 => on_operator(Kind::Decoherence, s, at),
-        38 => on_scaled(s, at),
-        _ => Verdict::Unparsed,
+        17 => calls::<Empty<PauliOperator>>(reader),
+        18 => calls::<Empty<PauliHamiltonian>>(reader),
+        19 => calls::<Empty<DecoherenceOperator>>(reader),
+        20 => calls::<Empty<PauliLindbladNoiseOperator>>(reader),
+        38 => calls::<Scaled>(reader),
+        _ => Err(Fault::Unparsed),
     }
 }

@@ -1,206 +1,162 @@
-// The forms of a record: products, targets, terms, noise terms, places of rows. What is not of the form gives the position PAST.
-ghost use Rattle.std.specs.Prelude.{◌≤◌};
+// The forms of a record: numbers, products, targets and places of rows.
+use crate::fault::Fault;
+use crate::reader::Reader;
+use spins::{Alphabet, CAPACITY, Complex, Items, Product};
 
-use crate::reader::{PAST, byte, number, wide, word};
-use spins::{
-    Items, NoiseSet, NoiseTerm, PauliLindbladNoiseOperator, PauliOperator, PauliProduct, Term,
-    TermSet,
-};
-
-#[derive(Clone, Copy)]
-struct ReadItem {
-    pub site: u8,
-    pub letter: u8,
-    pub next: usize,
+pub(crate) trait Form: Drop + Sized {
+    fn read(reader: &mut Reader<'_>) -> Result<Self, Fault>;
 }
 
-#[derive(Clone, Copy)]
-pub(crate) struct ReadProduct {
-    pub items: Items,
-    pub next: usize,
+// One after the other.
+impl<A: Form, B: Form> Form for (A, B) {
+    fn read(reader: &mut Reader<'_>) -> Result<Self, Fault> {
+        let first = reader.read()?;
+        let second = reader.read()?;
+        Ok((first, second))
+    }
 }
 
-#[derive(Clone, Copy)]
-pub(crate) struct ReadTargets {
-    pub sites: [u8; 31],
-    pub next: usize,
+// A count, then so many.
+impl<T: Form> Form for Vec<T> {
+    fn read(reader: &mut Reader<'_>) -> Result<Self, Fault> {
+        let count: u8 = reader.read()?;
+        reader.list(usize::from(count))
+    }
 }
 
-// Terms in the order written: a list, not yet a set.
-#[derive(Clone, Copy)]
-pub(crate) struct ReadTerms {
-    pub list: TermSet,
-    pub next: usize,
+impl<const N: usize> Form for [u8; N] {
+    fn read(reader: &mut Reader<'_>) -> Result<Self, Fault> {
+        reader.bytes()
+    }
 }
 
+// The low byte first, as in all whole numbers.
+impl Form for u8 {
+    fn read(reader: &mut Reader<'_>) -> Result<Self, Fault> {
+        Ok(u8::from_le_bytes(reader.bytes()?))
+    }
+}
+
+impl Form for i8 {
+    fn read(reader: &mut Reader<'_>) -> Result<Self, Fault> {
+        Ok(i8::from_le_bytes(reader.bytes()?))
+    }
+}
+
+impl Form for u16 {
+    fn read(reader: &mut Reader<'_>) -> Result<Self, Fault> {
+        Ok(u16::from_le_bytes(reader.bytes()?))
+    }
+}
+
+impl Form for u64 {
+    fn read(reader: &mut Reader<'_>) -> Result<Self, Fault> {
+        Ok(u64::from_le_bytes(reader.bytes()?))
+    }
+}
+
+// The bits of an f64 are its sign, then its size, in which infinity comes last before the NaNs.
+const SIGN: u64 = 0x8000_0000_0000_0000;
+
+const INFINITY: u64 = 0x7ff0_0000_0000_0000;
+
+// By its bits; a NaN does not parse.
+impl Form for f64 {
+    #[tactic(auto, using(std::proofs::lemmas::Float::not_nan_f64_bits))]
+    fn read(reader: &mut Reader<'_>) -> Result<Self, Fault> {
+        let bits: u64 = reader.read()?;
+        if INFINITY < bits % SIGN {
+            return Err(Fault::Unparsed);
+        }
+        Ok(f64::from_bits(bits))
+    }
+}
+
+// The real part first.
+impl Form for Complex {
+    fn read(reader: &mut Reader<'_>) -> Result<Self, Fault> {
+        let re = reader.read()?;
+        let im = reader.read()?;
+        Ok(Complex { re, im })
+    }
+}
+
+// A number whose second part is zero.
 #[derive(Clone, Copy)]
-pub(crate) struct ReadNoise {
-    pub list: NoiseSet,
-    pub next: usize,
+pub(crate) struct Real(pub f64);
+
+impl Form for Real {
+    fn read(reader: &mut Reader<'_>) -> Result<Self, Fault> {
+        let z: Complex = reader.read()?;
+        if z.im == 0.0 {
+            Ok(Real(z.re))
+        } else {
+            Err(Fault::Unparsed)
+        }
+    }
+}
+
+// A sign x, which is the number x + 0i.
+#[derive(Clone, Copy)]
+pub(crate) struct Sign(f64);
+
+impl Form for Sign {
+    fn read(reader: &mut Reader<'_>) -> Result<Self, Fault> {
+        Ok(Sign(reader.read()?))
+    }
+}
+
+impl From<Sign> for Complex {
+    fn from(sign: Sign) -> Complex {
+        Complex {
+            re: sign.0,
+            im: 0.0,
+        }
+    }
+}
+
+// A count of at most 31 letters on ascending sites.
+impl Form for Items {
+    fn read(reader: &mut Reader<'_>) -> Result<Self, Fault> {
+        let count: u8 = reader.read()?;
+        let mut items = Items::new();
+        items.count = usize::from(count);
+        if CAPACITY < items.count {
+            return Err(Fault::Unparsed);
+        }
+        for i in 0..items.count {
+            items.sites[i] = reader.read()?;
+            items.letters[i] = reader.read()?;
+        }
+        if items.is_valid() {
+            Ok(items)
+        } else {
+            Err(Fault::Unparsed)
+        }
+    }
+}
+
+impl<K: Alphabet> Form for Product<K> {
+    fn read(reader: &mut Reader<'_>) -> Result<Self, Fault> {
+        let items: Items = reader.read()?;
+        Ok(Product::from(items))
+    }
 }
 
 // A count of spins and a row.
 #[derive(Clone, Copy)]
-pub(crate) struct ReadPlace {
+pub(crate) struct Place {
     pub spins: u32,
     pub row: u64,
-    pub next: usize,
 }
 
-pub(crate) fn place(s: &[u8], at: usize) -> ReadPlace {
-    let spins = byte(s, at);
-    let row = word(s, spins.next);
-    ReadPlace {
-        spins: spins.value as u32,
-        row: row.value,
-        next: row.next,
-    }
-}
-
-// An item whose site is `lowest` or above, at most 30, and whose letter is 1 to 3.
-fn item(s: &[u8], at: usize, lowest: u8) -> ReadItem
-    ensures { result.site ≤ 30 }
-{
-    let site = byte(s, at);
-    let letter = byte(s, site.next);
-    let a = site.value;
-    let b = letter.value;
-    let mut next = letter.next;
-    if a < lowest {
-        next = PAST;
-    }
-    if b < 1 {
-        next = PAST;
-    }
-    if 3 < b {
-        next = PAST;
-    }
-    if 30 < a {
-        return ReadItem {
-            site: 0,
-            letter: 0,
-            next: PAST,
-        };
-    }
-    ReadItem {
-        site: a,
-        letter: b,
-        next: next,
-    }
-}
-
-// A count of at most 31 items with ascending sites.
-pub(crate) fn product(s: &[u8], at: usize) -> ReadProduct {
-    let none = PauliProduct::new();
-    let mut items = none.items;
-    let count = byte(s, at);
-    let n = wide(count.value) as usize;
-    if 31 < n {
-        return ReadProduct {
-            items: items,
-            next: PAST,
-        };
-    }
-    let mut next = count.next;
-    let mut lowest: u8 = 0;
-    let mut i = 0usize;
-    while i < n {
-        let x = item(s, next, lowest);
-        items.sites[i] = x.site;
-        items.letters[i] = x.letter;
-        lowest = x.site + 1;
-        next = x.next;
-        i += 1;
-    }
-    items.count = n;
-    ReadProduct {
-        items: items,
-        next: next,
-    }
-}
-
-// The targets of spins 0 to 30.
-pub(crate) fn targets(s: &[u8], at: usize) -> ReadTargets {
-    let mut sites = [0u8; 31];
-    let mut next = at;
-    let mut i = 0usize;
-    while i < 31 {
-        let x = byte(s, next);
-        sites[i] = x.value;
-        next = x.next;
-        i += 1;
-    }
-    ReadTargets {
-        sites: sites,
-        next: next,
-    }
-}
-
-// A count of at most 64 terms.
-pub(crate) fn terms(s: &[u8], at: usize) -> ReadTerms {
-    let none = PauliOperator::new();
-    let mut list = none.terms;
-    let count = byte(s, at);
-    let n = wide(count.value) as usize;
-    if 64 < n {
-        return ReadTerms {
-            list: list,
-            next: PAST,
-        };
-    }
-    let mut next = count.next;
-    let mut i = 0usize;
-    while i < n {
-        let p = product(s, next);
-        let z = number(s, p.next);
-        let items = p.items;
-        let coefficient = z.value;
-        list.terms[i] = Term {
-            items: items,
-            coefficient: coefficient,
-        };
-        next = z.next;
-        i += 1;
-    }
-    list.count = n;
-    ReadTerms {
-        list: list,
-        next: next,
-    }
-}
-
-// A count of at most 64 noise terms.
-pub(crate) fn noise_terms(s: &[u8], at: usize) -> ReadNoise {
-    let none = PauliLindbladNoiseOperator::new();
-    let mut list = none.set;
-    let count = byte(s, at);
-    let n = wide(count.value) as usize;
-    if 64 < n {
-        return ReadNoise {
-            list: list,
-            next: PAST,
-        };
-    }
-    let mut next = count.next;
-    let mut i = 0usize;
-    while i < n {
-        let p = product(s, next);
-        let q = product(s, p.next);
-        let z = number(s, q.next);
-        let left = p.items;
-        let right = q.items;
-        let coefficient = z.value;
-        list.terms[i] = NoiseTerm {
-            left: left,
-            right: right,
-            coefficient: coefficient,
-        };
-        next = z.next;
-        i += 1;
-    }
-    list.count = n;
-    ReadNoise {
-        list: list,
-        next: next,
+impl Form for Place {
+    fn read(reader: &mut Reader<'_>) -> Result<Self, Fault> {
+        let spins: u8 = reader.read()?;
+        let row = reader.read()?;
+        Ok(Place {
+            spins: u32::from(spins),
+            row,
+        })
     }
 }

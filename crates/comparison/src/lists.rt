@@ -1,130 +1,85 @@
 // A list of calls on a Hamiltonian and a noise set, then their open system's row: opcode 33.
-use crate::arguments::operator;
-use crate::forms::{noise_terms, place, terms};
-use crate::hamiltonian_calls::hamiltonian_call;
-use crate::noise_calls::{NoiseCalls, noise_call};
-use crate::reader::{PAST, byte, number};
-use crate::replies::{done_compared, reply};
-use crate::row_answers::open_row_told;
-use crate::verdict::{Verdict, agreed, refused_if, worse};
-use letters::Kind;
-use observations::records::{complex_terms, same_pairs, same_terms};
-use spins::{DecoherenceOperator, PauliHamiltonian, PauliLindbladNoiseOperator};
+use crate::arguments::{Argument, Told, Written};
+use crate::calls::{Call, CallOn, agrees};
+use crate::fault::Fault;
+use crate::forms::{Form, Place};
+use crate::reader::Reader;
+use crate::replies::Reply;
+use crate::row_answers::{Row, row_agrees};
+use crate::sets::{Set, noise};
+use spins::{
+    Complex, DecoherenceOperator, PauliHamiltonian, PauliLindbladNoiseOperator,
+    PauliLindbladOpenSystem, Refusal, open_row,
+};
 
-// Both sets after calls.
-#[derive(Clone, Copy)]
-struct ListCalls {
-    pub system: PauliHamiltonian,
-    pub noise: PauliLindbladNoiseOperator,
-    pub verdict: Verdict,
-    pub next: usize,
+#[derive(Drop)]
+enum Step {
+    System(CallOn<PauliHamiltonian>),
+    Noise(CallOn<PauliLindbladNoiseOperator>),
+    // `add_noise_from_full_operators`.
+    Full(Written<DecoherenceOperator>, Written<DecoherenceOperator>, Complex),
 }
 
-// `add_noise_from_full_operators`.
-fn full_call(s: &[u8], at: usize, noise: PauliLindbladNoiseOperator) -> NoiseCalls {
-    let l = operator(Kind::Decoherence, s, at);
-    let r = operator(Kind::Decoherence, s, l.next);
-    let z = number(s, r.next);
-    let t = reply(s, z.next);
-    let left = l.set;
-    let right = r.set;
-    let value = z.value;
-    let a = noise.add_noise_from_full_operators(
-        DecoherenceOperator { terms: left },
-        DecoherenceOperator { terms: right },
-        value,
-    );
-    let outcome = a.outcome;
-    let after = a.operator;
-    NoiseCalls {
-        operator: after,
-        verdict: worse(refused_if(l.refused | r.refused), done_compared(outcome, t)),
-        next: t.next,
+impl Form for Step {
+    fn read(reader: &mut Reader<'_>) -> Result<Self, Fault> {
+        let which: u8 = reader.read()?;
+        match which {
+            0 => Ok(Step::System(changing(reader.read()?)?)),
+            1 => Ok(Step::Noise(changing(reader.read()?)?)),
+            2 => Ok(Step::Full(reader.read()?, reader.read()?, reader.read()?)),
+            _ => Err(Fault::Unparsed),
+        }
     }
 }
 
-fn on_system(s: &[u8], at: usize, h: PauliHamiltonian, n: PauliLindbladNoiseOperator) -> ListCalls {
-    let c = hamiltonian_call(s, at, h);
-    let after = c.set;
-    let verdict = c.verdict;
-    ListCalls {
-        system: after,
-        noise: n,
-        verdict: verdict,
-        next: c.next,
+// A call that may stand in a list: `get` stands in none.
+fn changing<K: Drop, V: Drop>(call: Call<K, V>) -> Result<Call<K, V>, Fault> {
+    match call {
+        Call::Get(_) => Err(Fault::Unparsed),
+        _ => Ok(call),
     }
 }
 
-fn on_noise(h: PauliHamiltonian, c: NoiseCalls) -> ListCalls {
-    let after = c.operator;
-    let verdict = c.verdict;
-    ListCalls {
-        system: h,
-        noise: after,
-        verdict: verdict,
-        next: c.next,
+impl Step {
+    // Makes the call; whether the answer is what the Rust replied.
+    fn agrees(&self, open: &mut PauliLindbladOpenSystem, told: Reply) -> Result<bool, Refusal> {
+        match self {
+            Step::System(call) => agrees(&mut open.system, *call, told),
+            Step::Noise(call) => agrees(&mut open.noise, *call, told),
+            Step::Full(left, right, value) => {
+                let ours = full(&mut open.noise, left.build()?, right.build()?, *value);
+                told.agrees(ours)
+            }
+        }
     }
 }
 
-// Where a verb may stand: `get` stands in no list.
-fn verb_at(s: &[u8], at: usize) -> usize {
-    let verb = byte(s, at);
-    if verb.value < 2 { at } else { PAST }
+fn full(
+    set: &mut PauliLindbladNoiseOperator,
+    left: DecoherenceOperator,
+    right: DecoherenceOperator,
+    value: Complex,
+) -> Result<Reply, Refusal> {
+    *set = noise(set.add_noise_from_full_operators(left, right, value))?;
+    Ok(Reply::Done)
 }
 
-fn list_call(s: &[u8], at: usize, h: PauliHamiltonian, n: PauliLindbladNoiseOperator) -> ListCalls {
-    let which = byte(s, at);
-    let w = which.value;
-    match w {
-        0 => on_system(s, verb_at(s, which.next), h, n),
-        1 => on_noise(h, noise_call(s, verb_at(s, which.next), n)),
-        2 => on_noise(h, full_call(s, which.next, n)),
-        _ => ListCalls {
-            system: h,
-            noise: n,
-            verdict: Verdict::Same,
-            next: PAST,
-        },
+pub(crate) fn compared(reader: &mut Reader<'_>) -> Result<bool, Fault> {
+    let steps: Vec<(Step, Reply)> = reader.read()?;
+    let place: Place = reader.read()?;
+    let system: Told<PauliHamiltonian> = reader.read()?;
+    let noise: Told<PauliLindbladNoiseOperator> = reader.read()?;
+    let row: Row = reader.read()?;
+    reader.end()?;
+    let mut open = PauliLindbladOpenSystem {
+        system: PauliHamiltonian::new(),
+        noise: PauliLindbladNoiseOperator::new(),
+    };
+    let mut same = true;
+    for (step, reply) in &steps {
+        same &= step.agrees(&mut open, *reply)?;
     }
-}
-
-fn list_calls(s: &[u8], at: usize) -> ListCalls {
-    let count = byte(s, at);
-    let n = count.value;
-    let mut system = PauliHamiltonian::new();
-    let mut noise = PauliLindbladNoiseOperator::new();
-    let mut verdict = Verdict::Same;
-    let mut next = count.next;
-    let mut i: u8 = 0;
-    while i < n {
-        let c = list_call(s, next, system, noise);
-        let h = c.system;
-        let m = c.noise;
-        let here = c.verdict;
-        system = h;
-        noise = m;
-        verdict = worse(verdict, here);
-        next = c.next;
-        i += 1;
-    }
-    ListCalls {
-        system: system,
-        noise: noise,
-        verdict: verdict,
-        next: next,
-    }
-}
-
-pub(crate) fn compared(s: &[u8], at: usize) -> Verdict {
-    let c = list_calls(s, at);
-    let p = place(s, c.next);
-    let t = terms(s, p.next);
-    let m = noise_terms(s, t.next);
-    let h = c.system;
-    let n = c.noise;
-    let calls = c.verdict;
-    let sets = agreed(
-        same_terms(false, complex_terms(h), t.list) & same_pairs(false, n.set, m.list),
-    );
-    open_row_told(h, n, p.spins, p.row, s, m.next, worse(calls, sets))
+    let sets = open.system.holds(&system.list) && open.noise.holds(&noise.list);
+    let rows = row_agrees(reader.alloc(), open, place, &row, open_row)?;
+    Ok(same && sets && rows)
 }

@@ -4,12 +4,10 @@
 mod answers;
 mod arguments;
 mod calls;
-mod entries;
+mod fault;
 mod forms;
-mod hamiltonian_calls;
 mod lists;
 mod names;
-mod noise_calls;
 mod operator_answers;
 mod product_answers;
 mod reader;
@@ -17,16 +15,19 @@ mod records;
 mod replies;
 mod report;
 mod row_answers;
+mod sets;
 mod single_letters;
-mod verdict;
 
 use std::fs::File;
+use std::io;
+use std::io::Read;
 
-fn main(rt: HostRuntime) {
-    match File::open(&rt, "vectors.bin") {
-        Ok(file) => report::print_report(records::compared_file(file)),
-        Err(_) => {
-            io::write_all(1, b"vectors.bin: cannot be opened\n");
-        }
-    }
+fn main(rt: HostRuntime) -> io::Result<()> {
+    let Ok(mut file) = File::open(&rt, "vectors.bin") else {
+        return println!(rt; "vectors.bin: cannot be opened");
+    };
+    let mut bytes = Vec::new(rt.alloc());
+    file.read_to_end(&mut bytes)?;
+    let report = records::compared(&rt, &bytes)?;
+    print!(rt; "{report}")
 }

@@ -1,193 +1,137 @@
-// Records on products, opcodes 0 to 16: seven calls on Pauli products, the same on decoherence products, conversions and the row.
-use crate::answers::{factor_told, joined_told, letter_told, order_told, product_told, sign_told};
-use crate::forms::{place, product, targets};
-use crate::reader::byte;
-use crate::row_answers::row_told;
-use crate::verdict::Verdict;
-use letters::Kind;
-use observations::buffers::{OLD_COLUMN, OLD_PART, PLACES};
-use spins::{DecoherenceAnswer, DecoherenceProduct, Items, PauliAnswer, PauliProduct, ProductRow};
+// Records on products, opcodes 0 to 16: seven calls on products of either kind, conversions and the row.
+use crate::answers::is_power;
+use crate::fault::Fault;
+use crate::forms::{Form, Place, Sign};
+use crate::reader::Reader;
+use crate::row_answers::Row;
+use spins::{
+    Alphabet, Complex, DecoherenceLetters, DecoherenceProduct, Items, PauliLetters, PauliProduct,
+    Product, Refusal, SITE_COUNT, Site, WithPower,
+};
 
-fn pauli(items: Items) -> PauliProduct {
-    PauliProduct { items: items }
+// A product.
+fn product_told<K: Alphabet>(
+    reader: &mut Reader<'_>,
+    ours: Result<Product<K>, Refusal>,
+) -> Result<bool, Fault> {
+    let told: Items = reader.read()?;
+    reader.end()?;
+    Ok(ours?.items == told)
 }
 
-fn decoherence(items: Items) -> DecoherenceProduct {
-    DecoherenceProduct { items: items }
+// A product and its power of i, beside the Rust's product and number.
+fn power_told<K: Alphabet, F: Form + Into<Complex>>(
+    reader: &mut Reader<'_>,
+    ours: Result<WithPower<K>, Refusal>,
+) -> Result<bool, Fault> {
+    let (told, factor): (Items, F) = reader.read()?;
+    reader.end()?;
+    let ours = ours?;
+    Ok(ours.product.items == told && is_power(ours.power, factor))
 }
 
-fn pauli_told(s: &[u8], at: usize, a: PauliAnswer) -> Verdict {
-    let outcome = a.outcome;
-    product_told(s, at, outcome, a.product.items)
+fn set<K: Alphabet>(reader: &mut Reader<'_>) -> Result<bool, Fault> {
+    let product: Product<K> = reader.read()?;
+    let (site, letter) = reader.read()?;
+    product_told(reader, product.set_pauli(site, letter))
 }
 
-fn decoherence_told(s: &[u8], at: usize, a: DecoherenceAnswer) -> Verdict {
-    let outcome = a.outcome;
-    product_told(s, at, outcome, a.product.items)
+// The letter on a site, 0 where it is free.
+fn get<K: Alphabet>(reader: &mut Reader<'_>) -> Result<bool, Fault> {
+    let (product, site): (Product<K>, Site) = reader.read()?;
+    let told: u8 = reader.read()?;
+    reader.end()?;
+    Ok(product.get(site)?.unwrap_or(0) == told)
 }
 
-fn set(kind: Kind, s: &[u8], at: usize) -> Verdict {
-    let p = product(s, at);
-    let site = byte(s, p.next);
-    let letter = byte(s, site.next);
-    let items = p.items;
-    match kind {
-        Kind::Pauli => pauli_told(
-            s,
-            letter.next,
-            pauli(items).set_pauli(site.value, letter.value),
-        ),
-        Kind::Decoherence => decoherence_told(
-            s,
-            letter.next,
-            decoherence(items).set_pauli(site.value, letter.value),
-        ),
-    }
+fn multiply<K: Alphabet>(reader: &mut Reader<'_>) -> Result<bool, Fault> {
+    let (left, right): (Product<K>, Product<K>) = reader.read()?;
+    power_told::<K, Complex>(reader, left.multiply(right))
 }
 
-fn get(kind: Kind, s: &[u8], at: usize) -> Verdict {
-    let p = product(s, at);
-    let site = byte(s, p.next);
-    let items = p.items;
-    match kind {
-        Kind::Pauli => letter_told(s, site.next, pauli(items).get(site.value)),
-        Kind::Decoherence => letter_told(s, site.next, decoherence(items).get(site.value)),
-    }
-}
-
-fn multiply(kind: Kind, s: &[u8], at: usize) -> Verdict {
-    let p = product(s, at);
-    let q = product(s, p.next);
-    let left = p.items;
-    let right = q.items;
-    match kind {
-        Kind::Pauli => {
-            let a = pauli(left).multiply(pauli(right));
-            let outcome = a.outcome;
-            factor_told(s, q.next, outcome, a.product.items, a.power)
-        }
-        Kind::Decoherence => {
-            let a = decoherence(left).multiply(decoherence(right));
-            let outcome = a.outcome;
-            factor_told(s, q.next, outcome, a.product.items, a.power)
+// A product, or the site at which the Rust refused it with 3.
+impl Form for Result<Items, Refusal> {
+    fn read(reader: &mut Reader<'_>) -> Result<Self, Fault> {
+        let tag: u8 = reader.read()?;
+        match tag {
+            0 => Ok(Ok(reader.read()?)),
+            3 => {
+                let site: Site = reader.read()?;
+                Ok(Err(Refusal::SiteOccupied(usize::from(site))))
+            }
+            _ => Err(Fault::Unparsed),
         }
     }
 }
 
-fn concatenate(kind: Kind, s: &[u8], at: usize) -> Verdict {
-    let p = product(s, at);
-    let q = product(s, p.next);
-    let left = p.items;
-    let right = q.items;
-    match kind {
-        Kind::Pauli => {
-            let a = pauli(left).concatenate(pauli(right));
-            let outcome = a.outcome;
-            joined_told(s, q.next, outcome, a.product.items)
-        }
-        Kind::Decoherence => {
-            let a = decoherence(left).concatenate(decoherence(right));
-            let outcome = a.outcome;
-            joined_told(s, q.next, outcome, a.product.items)
-        }
+fn concatenate<K: Alphabet>(reader: &mut Reader<'_>) -> Result<bool, Fault> {
+    let (left, right): (Product<K>, Product<K>) = reader.read()?;
+    let told: Result<Items, Refusal> = reader.read()?;
+    reader.end()?;
+    let ours = left.concatenate(right);
+    match told {
+        Ok(items) => Ok(ours?.items == items),
+        Err(why) => Ok(ours.err() == Some(why)),
     }
 }
 
-fn cmp(kind: Kind, s: &[u8], at: usize) -> Verdict {
-    let p = product(s, at);
-    let q = product(s, p.next);
-    let left = p.items;
-    let right = q.items;
-    match kind {
-        Kind::Pauli => order_told(s, q.next, pauli(left).cmp(pauli(right))),
-        Kind::Decoherence => order_told(s, q.next, decoherence(left).cmp(decoherence(right))),
-    }
+// -1, 0 or 1.
+fn cmp<K: Alphabet>(reader: &mut Reader<'_>) -> Result<bool, Fault> {
+    let (left, right): (Product<K>, Product<K>) = reader.read()?;
+    let told: i8 = reader.read()?;
+    reader.end()?;
+    Ok(left.cmp(right)? as i8 == told)
 }
 
-fn conjugate(kind: Kind, s: &[u8], at: usize) -> Verdict {
-    let p = product(s, at);
-    let items = p.items;
-    match kind {
-        Kind::Pauli => {
-            let a = pauli(items).hermitian_conjugate();
-            let outcome = a.outcome;
-            sign_told(s, p.next, outcome, a.product.items, a.power)
-        }
-        Kind::Decoherence => {
-            let a = decoherence(items).hermitian_conjugate();
-            let outcome = a.outcome;
-            sign_told(s, p.next, outcome, a.product.items, a.power)
-        }
-    }
+fn conjugate<K: Alphabet>(reader: &mut Reader<'_>) -> Result<bool, Fault> {
+    let product: Product<K> = reader.read()?;
+    power_told::<K, Sign>(reader, product.hermitian_conjugate())
 }
 
-fn remap(kind: Kind, s: &[u8], at: usize) -> Verdict {
-    let p = product(s, at);
-    let t = targets(s, p.next);
-    let items = p.items;
-    let sites = t.sites;
-    match kind {
-        Kind::Pauli => pauli_told(s, t.next, pauli(items).remap_qubits(sites)),
-        Kind::Decoherence => decoherence_told(s, t.next, decoherence(items).remap_qubits(sites)),
-    }
+fn remap<K: Alphabet>(reader: &mut Reader<'_>) -> Result<bool, Fault> {
+    let (product, targets): (Product<K>, [Site; SITE_COUNT]) = reader.read()?;
+    product_told(reader, product.remap_qubits(targets))
 }
 
-// A product of the kind in letters of the other one.
-fn convert(kind: Kind, s: &[u8], at: usize) -> Verdict {
-    let p = product(s, at);
-    let items = p.items;
-    match kind {
-        Kind::Pauli => {
-            let a = DecoherenceProduct::spin_to_decoherence(pauli(items));
-            let outcome = a.outcome;
-            factor_told(s, p.next, outcome, a.product.items, a.power)
-        }
-        Kind::Decoherence => {
-            let a = decoherence(items).decoherence_to_spin();
-            let outcome = a.outcome;
-            factor_told(s, p.next, outcome, a.product.items, a.power)
-        }
-    }
+fn to_pauli(reader: &mut Reader<'_>) -> Result<bool, Fault> {
+    let product: DecoherenceProduct = reader.read()?;
+    power_told::<PauliLetters, Complex>(reader, product.decoherence_to_spin())
 }
 
-// The row of a decoherence product, as one of one entry.
-fn row(s: &[u8], at: usize) -> Verdict {
-    let p = product(s, at);
-    let w = place(s, p.next);
-    let items = p.items;
-    let mut columns = [OLD_COLUMN; PLACES];
-    let mut re = [OLD_PART; PLACES];
-    let mut im = [OLD_PART; PLACES];
-    match decoherence(items).sparse_matrix_entries_on_row(w.spins, w.row) {
-        ProductRow::Entry(column, factor) => {
-            columns[0] = column;
-            re[0] = factor.re;
-            im[0] = factor.im;
-            row_told(s, w.next, Verdict::Same, 1, &columns, &re, &im)
-        }
-        ProductRow::Refused(_) => row_told(s, w.next, Verdict::Refused, 0, &columns, &re, &im),
-    }
+fn to_decoherence(reader: &mut Reader<'_>) -> Result<bool, Fault> {
+    let product: PauliProduct = reader.read()?;
+    let ours = DecoherenceProduct::spin_to_decoherence(product);
+    power_told::<DecoherenceLetters, Complex>(reader, ours)
+}
+
+// The row of a decoherence product, which has one entry.
+fn row(reader: &mut Reader<'_>) -> Result<bool, Fault> {
+    let (product, place): (DecoherenceProduct, Place) = reader.read()?;
+    let told: Row = reader.read()?;
+    reader.end()?;
+    Ok(told.is_one(product.sparse_matrix_entries_on_row(place.spins, place.row)?))
 }
 
 // One of the seven calls that both kinds have.
-fn called(kind: Kind, call: u8, s: &[u8], at: usize) -> Verdict {
+fn called<K: Alphabet>(call: u8, reader: &mut Reader<'_>) -> Result<bool, Fault> {
     match call {
-        0 => set(kind, s, at),
-        1 => get(kind, s, at),
-        2 => multiply(kind, s, at),
-        3 => concatenate(kind, s, at),
-        4 => cmp(kind, s, at),
-        5 => conjugate(kind, s, at),
-        _ => remap(kind, s, at),
+        0 => set::<K>(reader),
+        1 => get::<K>(reader),
+        2 => multiply::<K>(reader),
+        3 => concatenate::<K>(reader),
+        4 => cmp::<K>(reader),
+        5 => conjugate::<K>(reader),
+        _ => remap::<K>(reader),
     }
 }
 
-pub(crate) fn compared(op: u8, s: &[u8], at: usize) -> Verdict {
+pub(crate) fn compared(op: u8, reader: &mut Reader<'_>) -> Result<bool, Fault> {
     match op {
-        0..=6 => called(Kind::Pauli, op, s, at),
-        7..=13 => called(Kind::Decoherence, op - 7, s, at),
-        14 => convert(Kind::Decoherence, s, at),
-        15 => convert(Kind::Pauli, s, at),
-        _ => row(s, at),
+        0..=6 => called::<PauliLetters>(op, reader),
+        7..=13 => called::<DecoherenceLetters>(op - 7, reader),
+        14 => to_pauli(reader),
+        15 => to_decoherence(reader),
+        16 => row(reader),
+        _ => Err(Fault::Unparsed),
     }
 }

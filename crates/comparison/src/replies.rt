@@ -1,97 +1,56 @@
 // What the Rust replied to a call, and our answer beside it.
-use crate::reader::{PAST, byte, number};
-use crate::verdict::{Verdict, agreed};
-use observations::records::same_number;
-use spins::{Complex, GetAnswer, Outcome, Refusal, SetAnswer};
+use crate::fault::Fault;
+use crate::forms::Form;
+use crate::reader::Reader;
+use observations::records::Same;
+use spins::{Complex, Refusal};
 
-const DONE: u8 = 0;
-
-const FREE: u8 = 1;
-
-const COEFFICIENT: u8 = 2;
-
-const EMPTY_SIDE: u8 = 4;
-
-// A reply, and the coefficient that it gives, zero where it gives none.
 #[derive(Clone, Copy)]
-pub(crate) struct ReadReply {
-    pub tag: u8,
-    pub value: Complex,
-    pub next: usize,
+pub(crate) enum Reply {
+    Done,
+    // The key was free.
+    Free,
+    // The coefficient asked for, or the one replaced.
+    Coefficient(Complex),
+    // Refused with 4.
+    EmptySide,
 }
 
-fn bare(tag: u8, next: usize) -> ReadReply {
-    ReadReply {
-        tag: tag,
-        value: Complex { re: 0.0, im: 0.0 },
-        next: next,
-    }
-}
-
-pub(crate) fn reply(s: &[u8], at: usize) -> ReadReply {
-    let tag = byte(s, at);
-    let t = tag.value;
-    match t {
-        COEFFICIENT => {
-            let z = number(s, tag.next);
-            let value = z.value;
-            ReadReply {
-                tag: t,
-                value: value,
-                next: z.next,
-            }
+impl Form for Reply {
+    fn read(reader: &mut Reader<'_>) -> Result<Self, Fault> {
+        let tag: u8 = reader.read()?;
+        match tag {
+            0 => Ok(Reply::Done),
+            1 => Ok(Reply::Free),
+            2 => Ok(Reply::Coefficient(reader.read()?)),
+            4 => Ok(Reply::EmptySide),
+            _ => Err(Fault::Unparsed),
         }
-        DONE | FREE | EMPTY_SIDE => bare(t, tag.next),
-        _ => bare(t, PAST),
     }
 }
 
-// A reply that gives a coefficient.
-fn gives(r: ReadReply, value: Complex) -> bool {
-    let told = r.value;
-    if r.tag == COEFFICIENT {
-        return same_number(false, value, told);
+impl Reply {
+    pub(crate) fn is_coefficient(self, value: Complex) -> bool {
+        match self {
+            Reply::Coefficient(told) => value.same(false, &told),
+            _ => false,
+        }
     }
-    false
-}
 
-// A refusal of ours: compared with the Rust's refusal, and counted where the Rust answers.
-fn refused(why: Refusal, r: ReadReply) -> Verdict {
-    if r.tag == EMPTY_SIDE {
-        return agreed(why.number() == 4);
+    fn is(self, ours: Reply) -> bool {
+        match (ours, self) {
+            (Reply::Done, Reply::Done) => true,
+            (Reply::Free, Reply::Free) => true,
+            (Reply::Coefficient(value), told) => told.is_coefficient(value),
+            _ => false,
+        }
     }
-    Verdict::Refused
-}
 
-pub(crate) fn set_compared(a: SetAnswer, r: ReadReply) -> Verdict {
-    match a {
-        SetAnswer::Replaced(re, im) => agreed(gives(r, Complex { re: re, im: im })),
-        SetAnswer::WasFree => agreed(r.tag == FREE),
-        SetAnswer::Refused(why) => refused(why, r),
-    }
-}
-
-pub(crate) fn get_compared(a: GetAnswer, r: ReadReply) -> Verdict {
-    match a {
-        GetAnswer::Coefficient(value) => agreed(gives(r, value)),
-        GetAnswer::Refused(why) => refused(why, r),
-    }
-}
-
-pub(crate) fn done_compared(outcome: Outcome, r: ReadReply) -> Verdict {
-    match outcome {
-        Outcome::Done => agreed(r.tag == DONE),
-        Outcome::Refused(why) => refused(why, r),
-    }
-}
-
-// The recorded difference: the coefficient of a pair with an empty side is zero in the Rust and refused with 4 here.
-pub(crate) fn empty_get_compared(a: GetAnswer, r: ReadReply) -> Verdict {
-    if !gives(r, Complex { re: 0.0, im: 0.0 }) {
-        return Verdict::Differs;
-    }
-    match a {
-        GetAnswer::Coefficient(_) => Verdict::Differs,
-        GetAnswer::Refused(why) => agreed(why.number() == 4),
+    // Whether our answer is this one. Where the Rust refuses, ours has to be the same refusal.
+    pub(crate) fn agrees(self, ours: Result<Reply, Refusal>) -> Result<bool, Refusal> {
+        match self {
+            Reply::EmptySide => Ok(ours.err() == Some(Refusal::EmptySide)),
+            _ => Ok(self.is(ours?)),
+        }
     }
 }

@@ -1,138 +1,124 @@
 // How many records of each opcode were compared, refused and found to differ.
-use crate::verdict::Verdict;
+use crate::names::{NAMES, OPCODES};
+use std::fmt::{Display, Formatter};
+use std::{fmt, io};
 
-// The opcodes.
-const OPCODES: usize = 49;
+#[derive(Clone, Copy)]
+struct Counts {
+    compared: u64,
+    refused: u64,
+    differ: u64,
+}
 
 #[derive(Clone, Copy)]
 pub(crate) struct Report {
-    pub compared: [u64; 49],
-    pub refused: [u64; 49],
-    pub differ: [u64; 49],
-    pub unparsed: u64,
+    counts: [Counts; OPCODES],
+    unparsed: u64,
     // Records altered, and those of them that no longer agree.
-    pub altered: u64,
-    pub noticed: u64,
+    altered: u64,
+    noticed: u64,
 }
 
-pub(crate) fn empty_report() -> Report {
-    Report {
-        compared: [0; 49],
-        refused: [0; 49],
-        differ: [0; 49],
-        unparsed: 0,
-        altered: 0,
-        noticed: 0,
+impl Counts {
+    const NONE: Counts = Counts {
+        compared: 0,
+        refused: 0,
+        differ: 0,
+    };
+
+    const SAME: Counts = Counts {
+        compared: 1,
+        refused: 0,
+        differ: 0,
+    };
+
+    const DIFFERING: Counts = Counts {
+        compared: 1,
+        refused: 0,
+        differ: 1,
+    };
+
+    const REFUSED: Counts = Counts {
+        compared: 0,
+        refused: 1,
+        differ: 0,
+    };
+
+    // Sums, or the highest number where they are higher.
+    fn plus(self, other: &Counts) -> Counts {
+        Counts {
+            compared: self.compared.saturating_add(other.compared),
+            refused: self.refused.saturating_add(other.refused),
+            differ: self.differ.saturating_add(other.differ),
+        }
     }
 }
 
-// A sum, or the highest number where it is higher.
-fn plus(a: u64, b: u64) -> u64 {
-    if a <= u64::MAX - b { a + b } else { u64::MAX }
-}
-
-// The name of a record that stands out.
-fn name_record(index: u64, what: &[u8]) {
-    io::write_all(1, b"record ");
-    io::print_decimal(1, index);
-    io::write_all(1, what);
-}
-
-pub(crate) fn with_unparsed(r: Report, index: u64) -> Report {
-    let mut report = r;
-    name_record(index, b": does not parse\n");
-    report.unparsed = plus(report.unparsed, 1);
-    report
-}
-
-pub(crate) fn with_altered(r: Report, noticed: bool) -> Report {
-    let mut report = r;
-    report.altered = plus(report.altered, 1);
-    if noticed {
-        report.noticed = plus(report.noticed, 1);
-    }
-    report
-}
-
-fn with_compared(r: Report, op: usize) -> Report {
-    let mut report = r;
-    if op < OPCODES {
-        let n = report.compared[op];
-        report.compared[op] = plus(n, 1);
-    }
-    report
-}
-
-fn with_differing(r: Report, index: u64, op: usize) -> Report {
-    let mut report = with_compared(r, op);
-    name_record(index, b": differs\n");
-    if op < OPCODES {
-        let n = report.differ[op];
-        report.differ[op] = plus(n, 1);
-    }
-    report
-}
-
-fn with_refused(r: Report, index: u64, op: usize) -> Report {
-    let mut report = r;
-    name_record(index, b": refused\n");
-    if op < OPCODES {
-        let n = report.refused[op];
-        report.refused[op] = plus(n, 1);
-    }
-    report
-}
-
-// The report with a record's verdict.
-pub(crate) fn with_verdict(r: Report, index: u64, opcode: u8, v: Verdict) -> Report {
-    let op = opcode as usize;
-    match v {
-        Verdict::Same => with_compared(r, op),
-        Verdict::Differs => with_differing(r, index, op),
-        Verdict::Refused => with_refused(r, index, op),
-        Verdict::Unparsed => with_unparsed(r, index),
+impl Display for Counts {
+    fn fmt<W: fmt::Write>(&self, f: &mut Formatter<W>) -> fmt::Result {
+        write!(
+            f,
+            "compared {}, refused {}, differ {}",
+            self.compared, self.refused, self.differ
+        )
     }
 }
 
-fn total(counts: [u64; 49]) -> u64 {
-    let mut sum: u64 = 0;
-    let mut i = 0usize;
-    while i < OPCODES {
-        let n = counts[i];
-        sum = plus(sum, n);
-        i += 1;
+impl Report {
+    pub(crate) fn new() -> Self {
+        Report {
+            counts: [Counts::NONE; OPCODES],
+            unparsed: 0,
+            altered: 0,
+            noticed: 0,
+        }
     }
-    sum
-}
 
-fn print_counts(compared: u64, refused: u64, differ: u64) {
-    io::write_all(1, b"compared ");
-    io::print_decimal(1, compared);
-    io::write_all(1, b", refused ");
-    io::print_decimal(1, refused);
-    io::write_all(1, b", differ ");
-    io::print_decimal(1, differ);
-    io::write_all(1, b"\n");
+    fn add(&mut self, op: u8, counts: Counts) {
+        if let Some(place) = self.counts.get_mut(usize::from(op)) {
+            *place = place.plus(&counts);
+        }
+    }
+
+    pub(crate) fn add_same(&mut self, op: u8) {
+        self.add(op, Counts::SAME);
+    }
+
+    pub(crate) fn add_differing(&mut self, rt: &impl Print, index: u64, op: u8) -> io::Result<()> {
+        self.add(op, Counts::DIFFERING);
+        println!(rt; "record {index}: differs")
+    }
+
+    pub(crate) fn add_refused(&mut self, rt: &impl Print, index: u64, op: u8) -> io::Result<()> {
+        self.add(op, Counts::REFUSED);
+        println!(rt; "record {index}: refused")
+    }
+
+    pub(crate) fn add_unparsed(&mut self, rt: &impl Print, index: u64) -> io::Result<()> {
+        self.unparsed = self.unparsed.saturating_add(1);
+        println!(rt; "record {index}: does not parse")
+    }
+
+    pub(crate) fn add_altered(&mut self, noticed: bool) {
+        self.altered = self.altered.saturating_add(1);
+        self.noticed = self.noticed.saturating_add(u64::from(noticed));
+    }
 }
 
 // A line for each opcode, how many records do not parse, how many were altered, and the sums.
-pub(crate) fn print_report(r: Report) {
-    let mut i = 0usize;
-    while i < OPCODES {
-        crate::names::print_name(i);
-        io::write_all(1, b": ");
-        print_counts(r.compared[i], r.refused[i], r.differ[i]);
-        i += 1;
+impl Display for Report {
+    fn fmt<W: fmt::Write>(&self, f: &mut Formatter<W>) -> fmt::Result {
+        let mut total = Counts::NONE;
+        for (name, counts) in NAMES.iter().zip(&self.counts) {
+            writeln!(f, "{name}: {counts}")?;
+            total = total.plus(counts);
+        }
+        writeln!(f, "do not parse: {}", self.unparsed)?;
+        writeln!(
+            f,
+            "altered: {}, no longer agree: {}",
+            self.altered, self.noticed
+        )?;
+        writeln!(f, "{total}")
     }
-    io::write_all(1, b"do not parse: ");
-    io::print_decimal(1, r.unparsed);
-    io::write_all(1, b"\naltered: ");
-    io::print_decimal(1, r.altered);
-    io::write_all(1, b", no longer agree: ");
-    io::print_decimal(1, r.noticed);
-    io::write_all(1, b"\n");
-    let compared = r.compared;
-    let refused = r.refused;
-    let differ = r.differ;
-    print_counts(total(compared), total(refused), total(differ));
 }

@@ -1,174 +1,144 @@
 // Records on rows of operators, Hamiltonians, noise and open systems, opcodes 25 to 32, and rows beside those written.
-use crate::arguments::{BuiltOperator, hamiltonian, noise_operator, operator, scaled};
-use crate::forms::place;
-use crate::reader::{number, short, word};
-use crate::verdict::{Verdict, agreed, refused_if, settled, worse};
-use letters::Kind;
-use observations::buffers::{OLD_COLUMN, OLD_PART, PLACES, columns_kept, parts_kept};
+use crate::arguments::{Argument, Written};
+use crate::fault::Fault;
+use crate::forms::{Form, Place};
+use crate::reader::Reader;
+use crate::sets::{Set, pauli};
+use observations::buffers::{Buffers, PLACES, Room};
+use observations::records::Same;
 use spins::{
-    Delivery, PauliHamiltonian, PauliLindbladNoiseOperator, PauliLindbladOpenSystem, PauliOperator,
-    commutator_row, hamiltonian_commutator_row, hamiltonian_row, noise_row, open_row, operator_row,
+    Complex, Delivery, PauliHamiltonian, PauliLindbladNoiseOperator, PauliLindbladOpenSystem,
+    PauliOperator, ProductEntry, Refusal, commutator_row, hamiltonian_commutator_row,
+    hamiltonian_row, noise_row, open_row, operator_row,
 };
+use std::alloc::Global;
 
 // The most entries of a row.
 const ENTRIES: usize = 320;
 
-// So many entries in buffers, after what came before, beside those written; past them the buffers are as before the call.
-pub(crate) fn row_told(
-    s: &[u8],
-    at: usize,
-    before: Verdict,
-    count: usize,
-    columns: &[u64; PLACES],
-    re: &[f64; PLACES],
-    im: &[f64; PLACES],
-) -> Verdict {
-    let told = short(s, at);
-    let n = told.value as usize;
-    if ENTRIES < n {
-        return Verdict::Unparsed;
-    }
-    let mut same = n == count;
-    let mut next = told.next;
-    let mut i = 0usize;
-    while i < n {
-        let column = word(s, next);
-        let z = number(s, column.next);
-        let value = z.value;
-        same = same & (columns[i] == column.value) & (re[i] == value.re) & (im[i] == value.im);
-        next = z.next;
-        i += 1;
-    }
-    let rest = columns_kept(columns, n) & parts_kept(re, n) & parts_kept(im, n);
-    settled(s, next, worse(before, agreed(same & rest)))
+#[derive(Clone, Copy)]
+pub(crate) struct Entry {
+    pub column: u64,
+    pub value: Complex,
 }
 
-// What a row call delivered into buffers.
-fn delivered(
-    d: Delivery,
-    s: &[u8],
-    at: usize,
-    before: Verdict,
-    columns: &[u64; PLACES],
-    re: &[f64; PLACES],
-    im: &[f64; PLACES],
-) -> Verdict {
-    match d {
-        Delivery::Count(count) => row_told(s, at, before, count, columns, re, im),
-        Delivery::Refused(_) => row_told(
-            s,
-            at,
-            worse(before, Verdict::Refused),
-            0,
-            columns,
-            re,
-            im,
-        ),
+impl Form for Entry {
+    fn read(reader: &mut Reader<'_>) -> Result<Self, Fault> {
+        let (column, value) = reader.read()?;
+        Ok(Entry { column, value })
     }
 }
 
-// The operator row (25 and 31) and the commutator row of a Pauli operator.
-fn operator_delivered(
-    op: u8,
-    o: BuiltOperator,
-    spins: u32,
-    row: u64,
-    s: &[u8],
-    at: usize,
-) -> Verdict {
-    let set = o.set;
-    let terms = PauliOperator { terms: set };
-    let mut columns = [OLD_COLUMN; PLACES];
-    let mut re = [OLD_PART; PLACES];
-    let mut im = [OLD_PART; PLACES];
-    let d = match op {
-        25 | 31 => operator_row(terms, spins, row, &mut columns, &mut re, &mut im),
-        _ => commutator_row(terms, spins, row, &mut columns, &mut re, &mut im),
+// A count of at most 320 entries.
+#[derive(Drop)]
+pub(crate) struct Row {
+    pub entries: Vec<Entry>,
+}
+
+impl Form for Row {
+    fn read(reader: &mut Reader<'_>) -> Result<Self, Fault> {
+        let count: u16 = reader.read()?;
+        let count = usize::from(count);
+        if ENTRIES < count {
+            return Err(Fault::Unparsed);
+        }
+        Ok(Row {
+            entries: reader.list(count)?,
+        })
+    }
+}
+
+impl Entry {
+    fn is(&self, column: u64, re: f64, im: f64) -> bool {
+        self.column == column && self.value.same(false, &Complex { re, im })
+    }
+}
+
+impl Row {
+    // Whether the row has this entry and no other.
+    pub(crate) fn is_one(&self, entry: ProductEntry) -> bool {
+        let (re, im) = (entry.factor.re, entry.factor.im);
+        self.entries.len() == 1 && self.entries.iter().all(|e| e.is(entry.column, re, im))
+    }
+
+    // Whether so many entries, delivered into buffers, are the row; past them the buffers have to be as before the call.
+    fn is_delivered(&self, count: usize, buffers: &Buffers<f64>) -> bool {
+        let places = buffers.columns.iter().zip(&buffers.re).zip(&buffers.im);
+        let mut pairs = places.zip(&self.entries);
+        let same = pairs.all(|(((column, re), im), e)| e.is(*column, *re, *im));
+        count == self.entries.len() && same && buffers.kept(count)
+    }
+}
+
+// What a row call answers, as a result.
+fn delivered(answer: Delivery) -> Result<usize, Refusal> {
+    match answer {
+        Delivery::Count(count) => Ok(count),
+        Delivery::Refused(why) => Err(why),
+    }
+}
+
+// Whether the row of a set at a place is the row written.
+pub(crate) fn row_agrees<
+    S: Copy,
+    F: FnOnce(S, u32, u64, &mut [u64], &mut [f64], &mut [f64]) -> Delivery,
+>(alloc: Global, set: S, place: Place, told: &Row, deliver: F) -> Result<bool, Fault>
+    requires { F.IsAlwaysCallable deliver }
+{
+    let mut buffers = Buffers::new(alloc)?;
+    let (columns, re, im) = buffers.lend(Room::each(PLACES));
+    let count = delivered(deliver(set, place.spins, place.row, columns, re, im))?;
+    Ok(told.is_delivered(count, &buffers))
+}
+
+fn set_row<S: Set, F: FnOnce(S, u32, u64, &mut [u64], &mut [f64], &mut [f64]) -> Delivery>(
+    reader: &mut Reader<'_>,
+    deliver: F,
+) -> Result<bool, Fault>
+    requires { F.IsAlwaysCallable deliver }
+{
+    let set: Written<S> = reader.read()?;
+    let (place, told) = reader.read()?;
+    reader.end()?;
+    row_agrees(reader.alloc(), set.build()?, place, &told, deliver)
+}
+
+// The same where a number after the place multiplies the operator first.
+fn scaled_row<F: FnOnce(PauliOperator, u32, u64, &mut [u64], &mut [f64], &mut [f64]) -> Delivery>(
+    reader: &mut Reader<'_>,
+    deliver: F,
+) -> Result<bool, Fault>
+    requires { F.IsAlwaysCallable deliver }
+{
+    let (operator, place): (Written<PauliOperator>, Place) = reader.read()?;
+    let (factor, told): (Complex, Row) = reader.read()?;
+    reader.end()?;
+    let scaled = pauli(operator.build()?.scale(factor))?;
+    row_agrees(reader.alloc(), scaled, place, &told, deliver)
+}
+
+fn system_row(reader: &mut Reader<'_>) -> Result<bool, Fault> {
+    let system: Written<PauliHamiltonian> = reader.read()?;
+    let noise: Written<PauliLindbladNoiseOperator> = reader.read()?;
+    let (place, told) = reader.read()?;
+    reader.end()?;
+    let open = PauliLindbladOpenSystem {
+        system: system.build()?,
+        noise: noise.build()?,
     };
-    delivered(d, s, at, refused_if(o.refused), &columns, &re, &im)
+    row_agrees(reader.alloc(), open, place, &told, open_row)
 }
 
-fn on_operator(op: u8, s: &[u8], at: usize) -> Verdict {
-    let o = operator(Kind::Pauli, s, at);
-    let p = place(s, o.next);
-    operator_delivered(op, o, p.spins, p.row, s, p.next)
-}
-
-// The same where a number at the end multiplies the operator first.
-fn on_scaled(op: u8, s: &[u8], at: usize) -> Verdict {
-    let o = operator(Kind::Pauli, s, at);
-    let p = place(s, o.next);
-    let z = number(s, p.next);
-    let t = scaled(o, z.value, z.next);
-    operator_delivered(op, t, p.spins, p.row, s, t.next)
-}
-
-// The operator row (26) and the commutator row of a Hamiltonian.
-fn on_hamiltonian(op: u8, s: &[u8], at: usize) -> Verdict {
-    let h = hamiltonian(s, at);
-    let p = place(s, h.next);
-    let mut columns = [OLD_COLUMN; PLACES];
-    let mut re = [OLD_PART; PLACES];
-    let mut im = [OLD_PART; PLACES];
-    let d = match op {
-        26 => hamiltonian_row(h.set, p.spins, p.row, &mut columns, &mut re, &mut im),
-        _ => hamiltonian_commutator_row(h.set, p.spins, p.row, &mut columns, &mut re, &mut im),
-    };
-    delivered(d, s, p.next, refused_if(h.refused), &columns, &re, &im)
-}
-
-fn on_noise(s: &[u8], at: usize) -> Verdict {
-    let n = noise_operator(s, at);
-    let p = place(s, n.next);
-    let mut columns = [OLD_COLUMN; PLACES];
-    let mut re = [OLD_PART; PLACES];
-    let mut im = [OLD_PART; PLACES];
-    let d = noise_row(n.operator, p.spins, p.row, &mut columns, &mut re, &mut im);
-    delivered(d, s, p.next, refused_if(n.refused), &columns, &re, &im)
-}
-
-// The row of an open system, after what came before.
-pub(crate) fn open_row_told(
-    h: PauliHamiltonian,
-    n: PauliLindbladNoiseOperator,
-    spins: u32,
-    row: u64,
-    s: &[u8],
-    at: usize,
-    before: Verdict,
-) -> Verdict {
-    let mut columns = [OLD_COLUMN; PLACES];
-    let mut re = [OLD_PART; PLACES];
-    let mut im = [OLD_PART; PLACES];
-    let system = PauliLindbladOpenSystem {
-        system: h,
-        noise: n,
-    };
-    let d = open_row(system, spins, row, &mut columns, &mut re, &mut im);
-    delivered(d, s, at, before, &columns, &re, &im)
-}
-
-fn on_system(s: &[u8], at: usize) -> Verdict {
-    let h = hamiltonian(s, at);
-    let n = noise_operator(s, h.next);
-    let p = place(s, n.next);
-    open_row_told(
-        h.set,
-        n.operator,
-        p.spins,
-        p.row,
-        s,
-        p.next,
-        refused_if(h.refused | n.refused),
-    )
-}
-
-pub(crate) fn compared(op: u8, s: &[u8], at: usize) -> Verdict {
+pub(crate) fn compared(op: u8, reader: &mut Reader<'_>) -> Result<bool, Fault> {
     match op {
-        26 | 28 => on_hamiltonian(op, s, at),
-        29 => on_noise(s, at),
-        30 | 31 => on_scaled(op, s, at),
-        32 => on_system(s, at),
-        _ => on_operator(op, s, at),
+        25 => set_row(reader, operator_row),
+        26 => set_row(reader, hamiltonian_row),
+        27 => set_row(reader, commutator_row),
+        28 => set_row(reader, hamiltonian_commutator_row),
+        29 => set_row(reader, noise_row),
+        30 => scaled_row(reader, commutator_row),
+        31 => scaled_row(reader, operator_row),
+        32 => system_row(reader),
+        _ => Err(Fault::Unparsed),
     }
 }

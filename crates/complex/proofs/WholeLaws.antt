@@ -15,8 +15,8 @@ use lib.Ieee.Fits.{down_pos}
 use lib.Ieee.Exact.{HasValue}
 use lib.Ieee.Nearest.{div_same}
 use borrow.Author.Tests.{le-leb, eq-eqb, ne_eqb, leb-true, eqb-true, eqb-false}
-use Rattle.complex.specs.declared.whole.WholePart.{WholePart}
-use Rattle.complex.specs.declared.whole.WholePart.TheVariants.{Parts, NotWhole}
+use Rattle.std.specs.Prelude as prelude
+use Rattle.std.specs.Prelude.{Some, None}
 use Rattle.complex.specs.Complex.{plus_zero}
 use Rattle.complex.specs.Wholes.{grain_power, most_parts_power, signed, whole_fraction, parts_in, whole_of, is_some, is_whole, parts_of, said_whole}
 
@@ -63,8 +63,8 @@ fraction_is most s a b z e = go (eqb (a % b) 0) refl (leb (a / b) (2 ^ most)) re
     go true f true g q =
         let h = eqb-true (a % b) 0 f in
         record { times = omega (arith, div-add-mod' a b); small = leb-true (a / b) (2 ^ most) g; value = cc }
-    go true f false g q = let k : ◌≡◌ {A = ℕ} 0 1 = cc in absurd (omega arith)
-    go false f u g q = let k : ◌≡◌ {A = ℕ} 0 1 = cc in absurd (omega arith)
+    go true f false g q = cc
+    go false f u g q = cc
 
 -- ---- floats, for any grain and limit
 
@@ -86,8 +86,8 @@ signed_level s m t n e =
     go true false zero n h e = refl
     go false true (suc m) zero h e = absurd (omega arith)
     go true false (suc m) zero h e = absurd (omega arith)
-    go false true (suc m) (suc n) h e = let k : ◌≡◌ {A = ℕ} 0 1 = cc in absurd (omega arith)
-    go true false (suc m) (suc n) h e = let k : ◌≡◌ {A = ℕ} 0 1 = cc in absurd (omega arith)
+    go false true (suc m) (suc n) h e = cc
+    go true false (suc m) (suc n) h e = cc
 
 -- a product that is zero, without its second factor
 left_zero : (a d : ℕ) → 0 < d → a * d ≡ 0 → a ≡ 0
@@ -119,8 +119,8 @@ module _ (grain most : ℕ) where
   -- not over the limit
   pub parts_most : (x : Float) (z : ℤ) → parts_in grain most x ≡ some z → nat_abs z ≤ 2 ^ most
   unfolding parts_in
-  parts_most nan z e = let k : ◌≡◌ {A = ℕ} 0 1 = cc in absurd (omega arith)
-  parts_most (inf s) z e = let k : ◌≡◌ {A = ℕ} 0 1 = cc in absurd (omega arith)
+  parts_most nan z e = cc
+  parts_most (inf s) z e = cc
   parts_most (fin s m e) z h =
       let f = fraction_is most s (2 ^ grain * (m * up e)) (down e) z h in
       rw (f.value, signed_size s (2 ^ grain * (m * up e) / down e)) f.small
@@ -191,10 +191,10 @@ module _ (grain most : ℕ) where
   -- the same parts: equal as numbers
   pub parts-equal : (x y : Float) (z : ℤ) → parts_in grain most x ≡ some z → parts_in grain most y ≡ some z → eq x y ≡ true
   unfolding parts_in eq
-  parts-equal nan y z h k = let i : ◌≡◌ {A = ℕ} 0 1 = cc in absurd (omega arith)
-  parts-equal (inf s) y z h k = let i : ◌≡◌ {A = ℕ} 0 1 = cc in absurd (omega arith)
-  parts-equal (fin s m e) nan z h k = let i : ◌≡◌ {A = ℕ} 0 1 = cc in absurd (omega arith)
-  parts-equal (fin s m e) (inf t) z h k = let i : ◌≡◌ {A = ℕ} 0 1 = cc in absurd (omega arith)
+  parts-equal nan y z h k = cc
+  parts-equal (inf s) y z h k = cc
+  parts-equal (fin s m e) nan z h k = cc
+  parts-equal (fin s m e) (inf t) z h k = cc
   parts-equal (fin s m e) (fin t n d) z h k = parts_level s (m * up e) (down e) t (n * up d) (down d) z h k
 
 -- ---- at the grain and the limit of number 11
@@ -270,8 +270,8 @@ unfolding whole_of
 whole_neg x = parts_neg grain_power most_parts_power x
 
 -- what `whole_part` says fixes its answer
-pub whole_known : (r q : WholePart) → said_whole r ≡ said_whole q → r ≡ q
-whole_known (Parts y) (Parts z) e = cc
-whole_known NotWhole NotWhole e = refl
-whole_known (Parts y) NotWhole e = let k : ◌≡◌ {A = ℕ} 0 1 = cc in absurd (omega arith)
-whole_known NotWhole (Parts z) e = let k : ◌≡◌ {A = ℕ} 0 1 = cc in absurd (omega arith)
+pub whole_known : (r q : prelude.Option ℤ) → said_whole r ≡ said_whole q → r ≡ q
+whole_known (Some y) (Some z) e = cc
+whole_known None None e = refl
+whole_known (Some y) None e = cc
+whole_known None (Some z) e = cc

@@ -1,11 +1,10 @@
 -- Whether an f64 counts as whole, and which whole number it is: document 01, "Exact row" and number 11. Definitions only.
-use Rattle.std.specs.Prelude.{ℕ, ◌*◌, ◌/◌, ◌%◌, ◌^◌, Bool, true, false, ◌&&◌, cond, leb, eqb, ℤ, pos, neg_ℤ, Float}
+use Rattle.std.specs.Prelude as prelude
+use Rattle.std.specs.Prelude.{Some, None, ℕ, ◌*◌, ◌/◌, ◌%◌, ◌^◌, Bool, true, false, ◌&&◌, cond, leb, eqb, ℤ, pos, neg_ℤ, Float}
 use Rattle.std.proofs.Math.Option.{Option, none, some, get_or}
 use Rattle.std.specs.Float.{nan, inf, fin}
 use Rattle.std.specs.Float.Ieee.{up, down}
 use Rattle.complex.specs.declared.Complex.{Complex}
-use Rattle.complex.specs.declared.whole.WholePart.{WholePart}
-use Rattle.complex.specs.declared.whole.WholePart.TheVariants.{Parts, NotWhole}
 
 -- "whole": a multiple of 1 / 2 ^ grain_power
 abbrev pub grain_power : ℕ
@@ -55,6 +54,6 @@ unfolding is_whole
 both_whole z = is_whole z.re && is_whole z.im
 
 -- what `whole_part` answers
-abbrev pub said_whole : WholePart → Option ℤ
-said_whole (Parts z) = some z
-said_whole NotWhole = none
+abbrev pub said_whole : prelude.Option ℤ → Option ℤ
+said_whole (Some z) = some z
+said_whole None = none

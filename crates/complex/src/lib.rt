@@ -27,10 +27,7 @@ pub fn part_in_range(x: f64) -> bool
 pub fn is_plus_zero(x: f64) -> bool
     ensures { result ≡ is_plus_zero x }
 {
-    if x == 0.0 {
-        return f64::to_bits(x) == 0;
-    }
-    false
+    x == 0.0 && x.to_bits() == 0
 }
 
 // i to the power `power`.

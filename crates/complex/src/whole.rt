@@ -17,56 +17,36 @@ const FIELDS: u64 = 2048;
 
 const LEADING_DIGIT: u64 = 4503599627370496;
 
-// How many parts a float has, or that number 11 refuses it.
-#[derive(Clone, Copy)]
-pub enum WholePart {
-    Parts(i64),
-    NotWhole,
-}
-
-pub fn whole_part(x: f64) -> WholePart
+// How many parts a float has; none where number 11 refuses it.
+pub fn whole_part(x: f64) -> Option<i64>
     ensures { said_whole result ≡ whole_of x }
 {
-    if x != x {
-        return WholePart::NotWhole;
+    if x.is_nan() {
+        return None;
     }
-    let bits = f64::to_bits(x);
-    let size = size_part(bits / LEADING_DIGIT % FIELDS, bits % LEADING_DIGIT);
-    match size {
-        WholePart::Parts(n) => {
-            if bits < SIGN {
-                return size;
-            }
-            WholePart::Parts(-n)
-        }
-        WholePart::NotWhole => WholePart::NotWhole,
-    }
+    let bits = x.to_bits();
+    let size = size_part(bits / LEADING_DIGIT % FIELDS, bits % LEADING_DIGIT)?;
+    Some(if bits < SIGN { size } else { -size })
 }
 
 // The same of the positive float with these fields. Unless the field is 0 or 2047, its value is
 // 2^52 + digits times 2^(field - 1075), which is below 1 under a field of 1023.
-fn size_part(field: u64, digits: u64) -> WholePart
+fn size_part(field: u64, digits: u64) -> Option<i64>
     requires { (field < 2 ^ 11) × (digits < 2 ^ 52) }
     ensures { said_whole result ≡ whole_of (of_fields binary64 false field digits) }
 {
     if field == 0 {
-        if digits == 0 {
-            return WholePart::Parts(0);
-        }
-        return WholePart::NotWhole;
+        return if digits == 0 { Some(0) } else { None };
     }
     let power = field + GRAIN_POWER;
-    if power < 1023 {
-        return WholePart::NotWhole;
-    }
-    if power > 1023 + MOST_PARTS_POWER {
-        return WholePart::NotWhole;
+    if power < 1023 || power > 1023 + MOST_PARTS_POWER {
+        return None;
     }
     let unit = 1u64 << (1075 - power);
     let digits = LEADING_DIGIT + digits;
     let n = digits / unit;
     if digits % unit == 0 && n <= 1u64 << MOST_PARTS_POWER {
-        return WholePart::Parts(n as i64);
+        return Some(n as i64);
     }
-    WholePart::NotWhole
+    None
 }

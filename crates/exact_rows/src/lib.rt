@@ -24,7 +24,7 @@ use hamiltonians::pauli_hamiltonian::complex_terms;
 use noise_sets::NoiseSet;
 use open_system::PauliLindbladOpenSystem;
 use outside_sites::outside_site;
-use refusal::{Carried, Refusal};
+use refusal::Refusal;
 use row_entries::{MOST_SPINS, superoperator_size};
 use rows::Delivery;
 use term_sets::TermSet;
@@ -93,8 +93,8 @@ fn row_of(
         return Delivery::Refused(Refusal::RowOutOfRange);
     }
     match outside_site(h, n, spins) {
-        Carried::Site(site) => Delivery::Refused(Refusal::SiteOutsideSpins(site)),
-        Carried::Nothing => whole_row(h, n, spins, row, out_columns, out_re, out_im),
+        Some(site) => Delivery::Refused(Refusal::SiteOutsideSpins(site)),
+        None => whole_row(h, n, spins, row, out_columns, out_re, out_im),
     }
 }
 

@@ -13,7 +13,6 @@ ghost use Rattle.noise_sets.specs.Pairs as pairs;
 
 use crate::halves::{minus_halves, scaled_halves};
 use exact_sums::halves::Halves;
-use items::masks::masks;
 use noise_sets::{NoiseSet, NoiseTerm};
 use row_entries::{commutator_entries, noise_entries};
 use term_sets::{Term, TermSet, held_count};
@@ -54,7 +53,7 @@ fn put_commutator(
     let c = t.coefficient;
     let x = parts_of(c.re);
     let y = parts_of(c.im);
-    let e = commutator_entries(masks(t.items), spins, row);
+    let e = commutator_entries(t.items.masks(), spins, row);
     let left = e.left;
     let right = e.right;
     let a = scaled_halves(left.power, x, y);
@@ -101,7 +100,7 @@ fn put_noise(
     let c = t.coefficient;
     let x = parts_of(c.re);
     let y = parts_of(c.im);
-    let e = noise_entries(masks(t.left), masks(t.right), spins, row);
+    let e = noise_entries(t.left.masks(), t.right.masks(), spins, row);
     let jump = e.jump;
     let left = e.left;
     let right = e.right;

@@ -11,7 +11,7 @@ ghost use Rattle.hamiltonians.specs.RealAnswers.{told_set, told, get_real, set_r
 use crate::valid_reals::masked;
 use complex::Complex;
 use items::Items;
-use products::pauli_product::PauliProduct;
+use products::PauliProduct;
 use refusal::{Outcome, Refusal};
 use term_sets::{GetAnswer, SetAnswer, Term, TermSet, held_count};
 use terms::MOST_TERMS;
@@ -45,7 +45,7 @@ fn blank_term() -> RealTerm
     ensures { result ≡ blank }
 {
     RealTerm {
-        items: items::empty(),
+        items: Items::new(),
         coefficient: 0.0,
     }
 }
@@ -60,7 +60,7 @@ fn find(s: PauliHamiltonian, key: Items) -> usize
     while i < n {
         let t = s.terms[i];
         let p = t.items;
-        if items::same(p, key) {
+        if p == key {
             return i;
         }
         i += 1;
@@ -208,7 +208,7 @@ impl PauliHamiltonian {
         if !self.is_valid() {
             return GetAnswer::Refused(Refusal::Malformed);
         }
-        if !items::is_valid(p) {
+        if !p.is_valid() {
             return GetAnswer::Refused(Refusal::Malformed);
         }
         GetAnswer::Coefficient(Complex {
@@ -228,7 +228,7 @@ impl PauliHamiltonian {
                 set: self,
             };
         }
-        if !items::is_valid(p) {
+        if !p.is_valid() {
             return HamiltonianAfterSet {
                 answer: SetAnswer::Refused(Refusal::Malformed),
                 set: self,
@@ -266,7 +266,7 @@ impl PauliHamiltonian {
                 set: self,
             };
         }
-        if !items::is_valid(p) {
+        if !p.is_valid() {
             return HamiltonianAnswer {
                 outcome: Outcome::Refused(Refusal::Malformed),
                 set: self,

@@ -25,7 +25,7 @@ fn is_blank(t: RealTerm) -> bool
     ensures { result ≡ is_blank t }
 {
     let p = t.items;
-    if items::is_empty(p) {
+    if p.is_empty() {
         return complex::is_plus_zero(t.coefficient);
     }
     false
@@ -67,14 +67,12 @@ fn gathered(s: PauliHamiltonian) -> RealMasks
     while i < n {
         let t = s.terms[i];
         let p = t.items;
-        let v = items::judged(p);
-        if !v.valid {
+        let Some(x) = p.judged() else {
             return refused();
-        }
+        };
         if !good_coefficient(t.coefficient) {
             return refused();
         }
-        let x = v.masks;
         if !is_new_marked(&marks, &masks, i, x) {
             return refused();
         }

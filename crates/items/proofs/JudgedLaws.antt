@@ -2,6 +2,7 @@
 -- Assumes nothing.
 use mathlib.Core.Path.{◌≡◌, refl, sym, ap, ◌∙◌}
 use mathlib.Core.Bool.{Bool, true, false, ◌&&◌, cond}
+use Rattle.std.specs.Prelude.{None, Some}
 use Prim.Native.Nat.{ℕ, zero, suc, ◌+◌, ◌-◌, ◌*◌, ◌/◌, ◌%◌, ◌^◌, ◌≤◌, ◌<◌}
 use native.Mathlib.Nat.{min-eq_left, le_antisymm}
 use native.Mathlib.Numerals.{add-one}
@@ -9,16 +10,15 @@ use native.Mathlib.Omega.{arith}
 use lib.Bits.{bit_xor}
 use lib.Dec.{leb, ltb, leb-zero}
 use lib.Pow.{shl_exact}
-use borrow.Author.Tests.{lt-ltb, le-ltb, leb-true}
+use borrow.Author.Tests.{lt-ltb, le-ltb}
 use Rattle.letters.specs.Tests.{every}
-use Rattle.letters.proofs.TestLaws.{and_left, every_more}
-use Rattle.letters.specs.Answers.{highest_letter}
+use Rattle.letters.proofs.TestLaws.{every_more}
 use Rattle.items.specs.Lists.{at}
 use Rattle.items.specs.Record.{capacity, highest_site, place_valid, valid}
 use Rattle.items.specs.Masks.{letter_bits, masks_in, masks_of}
-use Rattle.items.specs.Verdicts.{judged_masks}
+use Rattle.items.specs.Verdicts.{judged}
 use Rattle.items.specs.declared.Items.{Items}
-use Rattle.items.proofs.RecordLaws.{place_invalid, all_passed}
+use Rattle.items.proofs.RecordLaws.{place_invalid}
 
 -- ---- a letter's bits
 
@@ -71,15 +71,6 @@ module _ {p : Items} {i low m : ℕ} (j : Judging p i low m) (h : i < p.count) w
   pub judging_failed : {t : Bool} → t ≡ next low (at p.sites i) (at p.letters i) → t ≡ false → false ≡ valid p
   judging_failed e f = place_invalid p i (omega (arith, j.few)) (place_next ∙ sym e ∙ f)
 
-  -- a site that passes is one of the 31
-  pub judging_site : {t : Bool} → t ≡ next low (at p.sites i) (at p.letters i) → t ≡ true → at p.sites i ≤ highest_site
-  judging_site e f =
-      let a = leb (at p.sites i) highest_site in
-      let b = leb 1 (at p.letters i) in
-      let c = leb (at p.letters i) highest_letter in
-      let d = leb low (at p.sites i) in
-      leb-true (at p.sites i) highest_site (and_left a b (and_left (a && b) c (and_left (a && b && c) d (sym e ∙ f))))
-
   pub judging_more : {t : Bool} {x : ℕ} → t ≡ next low (at p.sites i) (at p.letters i) → t ≡ true → x ≡ letter_bits (at p.letters i % 4) * 2 ^ (at p.sites i % 32)
       → Judging p (i + 1) (at p.sites i + 1) (bit_xor m x)
   unfolding masks_in
@@ -92,10 +83,6 @@ module _ {p : Items} {i low m : ℕ} (j : Judging p i low m) (h : i < p.count) w
         bits = rw (add-one i, j.bits, b);
       }
 
--- all places below the count have passed: what number 0 says of the zeros past it decides
-pub judging_done : {p : Items} {i low m : ℕ} → Judging p i low m → p.count ≤ i → (p.count ≤ capacity) × (every p.count (place_valid p.count p.sites p.letters) ≡ true)
-judging_done {p} {i} j h = (j.few, all_passed p.count i (place_valid p.count p.sites p.letters) j.within h j.passed)
-
 pub judging_masks : {p : Items} {i low m : ℕ} → Judging p i low m → p.count ≤ i → m ≡ masks_of p
 unfolding masks_of
 judging_masks {p} {i} j h = j.bits ∙ ap (masks_in p.sites p.letters) (le_antisymm j.within h ∙ sym (min-eq_left j.few))
@@ -103,8 +90,8 @@ judging_masks {p} {i} j h = j.bits ∙ ap (masks_in p.sites p.letters) (le_antis
 -- ---- the verdict
 
 -- number 0 refuses the record, or lets it pass
-pub refused_verdict : (p : Items) → false ≡ valid p → (false ≡ valid p) × (0 ≡ judged_masks p)
-refused_verdict p e = (e, rw (sym e))
+pub refused_verdict : (p : Items) → false ≡ valid p → None ≡ judged p
+refused_verdict p e = rw (sym e)
 
-pub passed_verdict : (p : Items) {m : ℕ} → true ≡ valid p → m ≡ masks_of p → (true ≡ valid p) × (m ≡ judged_masks p)
-passed_verdict p e f = (e, rw (sym e) f)
+pub passed_verdict : (p : Items) {m : ℕ} → true ≡ valid p → m ≡ masks_of p → Some m ≡ judged p
+passed_verdict p e f = rw (sym e) (ap Some f)

@@ -169,6 +169,10 @@ valid_shape p v =
       count_most = leb-true p.count capacity (and_right (a && b) (leb p.count capacity) s);
     }
 
+-- the count fits the arrays
+pub count_fits : (p : Items) → valid p ≡ true → p.count ≤ capacity
+count_fits p v = (valid_shape p v).count_most
+
 -- a place below the count is one of the arrays
 pub place_fits : (p : Items) (i : ℕ) → valid p ≡ true → i < p.count → i < capacity
 place_fits p i v l = omega (arith, (valid_shape p v).count_most)

@@ -1,12 +1,13 @@
--- What an answer says, and the record beside it.
-use Rattle.std.specs.Prelude.{ℕ}
-use Rattle.refusal.specs.Refusals.{Said, said}
+-- What an answer says, with the record that its caller then has: the answer's, or, refused, the one handed in.
+use Rattle.std.specs.Prelude.{ℕ, Result}
+use Rattle.refusal.specs.Refusals.{Said, told_by}
+use Rattle.refusal.specs.declared.Refusal.{Refusal}
 use Rattle.items.specs.declared.Items.{Items}
-use Rattle.items.specs.declared.ItemsAnswer.{ItemsAnswer}
-use Rattle.items.specs.declared.ItemsWithPower.{ItemsWithPower}
+use Rattle.items.specs.declared.ScaledItems.{ScaledItems}
 
-abbrev pub told : ItemsAnswer → Said Unit × Items
-told r = (said r.outcome, r.items)
+abbrev pub told : Items → Result Items Refusal → Said Unit × Items
+told before r = told_by before (λ p. p) r
 
-abbrev pub told_power : ItemsWithPower → Said Unit × (ℕ × Items)
-told_power r = (said r.outcome, (r.power, r.items))
+-- beside a refusal the power of i is 0
+abbrev pub told_power : Items → Result ScaledItems Refusal → Said Unit × (ℕ × Items)
+told_power before r = told_by (0, before) (λ x. (x.power, x.items)) r

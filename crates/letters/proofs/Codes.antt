@@ -145,3 +145,13 @@ conjugated_plain kind l h ne = plain (sym (conjugated_code kind l h) ∙ keeps_a
 -- the conversion of another letter than 2
 pub converted_plain : (kind : Kind) (l : ℕ) → l < 4 → (l ≡ 2 → ⊥) → (l ≡ letter_of (converted (letters_of kind) (letters_of (other kind)) l)) × (0 ≡ power_of (converted (letters_of kind) (letters_of (other kind)) l))
 converted_plain kind l h ne = plain (sym (converted_code kind l h) ∙ keeps_at (convert_codes kind) (converted_keeps kind) l h ne) h
+
+-- the conjugate of a Pauli letter is the letter
+pauli_keeps : every 4 (λ l. eqb (get_or (conjugate_codes Pauli) l 0) l) ≡ true
+unfolding conjugate_codes every
+pauli_keeps = refl
+
+pub conjugated_pauli : (l : ℕ) → l < 4 → (l ≡ letter_of (conjugated (letters_of Pauli) l)) × (0 ≡ power_of (conjugated (letters_of Pauli) l))
+conjugated_pauli l h =
+    let k = eqb-true _ _ (every-at 4 (λ l. eqb (get_or (conjugate_codes Pauli) l 0) l) pauli_keeps l h) in
+    plain (sym (conjugated_code Pauli l h) ∙ k) h

@@ -8,3 +8,4 @@ pub mod Letterings
 pub mod Codes
 pub mod FactorLaws
 pub mod ReadingLaws
+pub mod GivenLaws

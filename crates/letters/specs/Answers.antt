@@ -1,12 +1,13 @@
 -- What the single-site entries answer: a letter and a power of i, 0 to 3, or a refusal.
 -- Document 01, `One site has sixteen cases`, and number 2; document 02, `Factors as powers of i`.
-use Rattle.std.specs.Prelude.{ℕ, ◌||◌, cond, [], ltb}
-use Rattle.refusal.specs.Refusals.{Said, gives, refuses, number, site_of}
+use Rattle.std.specs.Prelude.{ℕ, ◌||◌, cond, [], ltb, Result}
+use Rattle.refusal.specs.Refusals.{Said, gives, refuses, said_by}
+use Rattle.refusal.specs.declared.Refusal.{Refusal}
 use Rattle.letters.specs.Matrices.{Letters}
 use Rattle.letters.specs.Single.{times, conjugated, converted, letter_of, power_of}
 use Rattle.letters.specs.declared.Kind.{Kind}
 use Rattle.letters.specs.declared.Kind.TheVariants.{Pauli, Decoherence}
-use Rattle.letters.specs.declared.LetterAnswer.{LetterAnswer}
+use Rattle.letters.specs.declared.Scaled.{Scaled}
 
 -- the other kind
 abbrev pub other : Kind → Kind
@@ -30,7 +31,6 @@ conjugate_letter M l = cond (ltb highest_letter l) (refuses 2 []) (decoded (conj
 unfoldable pub convert_letter : Letters → Letters → ℕ → Said (ℕ × ℕ)
 convert_letter M M' l = cond (ltb highest_letter l) (refuses 2 []) (decoded (converted M M' l))
 
--- what each case of an answer says
-abbrev pub said_letter : LetterAnswer → Said (ℕ × ℕ)
-said_letter (LetterAnswer.Letter l k) = gives (l, k)
-said_letter (LetterAnswer.Refused why) = refuses (number why) (site_of why)
+-- what an answer says: a letter and a power of i, or a refusal
+abbrev pub said_letter : Result Scaled Refusal → Said (ℕ × ℕ)
+said_letter r = said_by (λ x. (x.letter, x.power)) r

@@ -6,8 +6,7 @@ ghost use Rattle.std.specs.Prelude.{◌≡◌};
 ghost use Rattle.letters.specs.Matrices.{letters_of};
 ghost use Rattle.letters.specs.Answers.{other, said_letter, multiply_letters, conjugate_letter, convert_letter};
 
-pub mod single_decoherence_operator;
-pub mod single_pauli_operator;
+pub mod alphabet;
 mod tables;
 
 use refusal::Refusal;
@@ -15,49 +14,49 @@ use refusal::Refusal;
 // The highest letter code.
 pub const HIGHEST_LETTER: u8 = 3;
 
-#[derive(Clone, Copy)]
+#[derive(Clone, Copy, PartialEq, Eq, Debug)]
 pub enum Kind {
     Pauli,
     Decoherence,
 }
 
-// A letter and its power of i.
-#[derive(Clone, Copy)]
-pub enum LetterAnswer {
-    Letter(u8, u8),
-    Refused(Refusal),
+// A letter times i to a power.
+#[derive(Clone, Copy, PartialEq, Eq, Debug)]
+pub struct Scaled {
+    pub letter: u8,
+    pub power: u8,
 }
 
-// The product of two letters of one kind.
-pub fn multiply(kind: Kind, left: u8, right: u8) -> LetterAnswer
-    ensures { said_letter result ≡ multiply_letters (letters_of kind) left right }
-{
-    if HIGHEST_LETTER < left {
-        return LetterAnswer::Refused(Refusal::UnknownLetter);
+impl Kind {
+    // The product of two letters of one kind.
+    pub fn multiply(self, left: u8, right: u8) -> Result<Scaled, Refusal>
+        ensures { said_letter result ≡ multiply_letters (letters_of self) left right }
+    {
+        if HIGHEST_LETTER < left || HIGHEST_LETTER < right {
+            return Err(Refusal::UnknownLetter);
+        }
+        Ok(tables::product(self, left, right))
     }
-    if HIGHEST_LETTER < right {
-        return LetterAnswer::Refused(Refusal::UnknownLetter);
-    }
-    let x = tables::product(kind, left, right);
-    LetterAnswer::Letter(x.letter, x.power)
-}
 
-// The conjugate transpose of a letter.
-pub fn conjugate(kind: Kind, letter: u8) -> LetterAnswer
-    ensures { said_letter result ≡ conjugate_letter (letters_of kind) letter }
-{
-    if HIGHEST_LETTER < letter {
-        return LetterAnswer::Refused(Refusal::UnknownLetter);
+    // The conjugate transpose of a letter.
+    pub fn conjugate(self, letter: u8) -> Result<Scaled, Refusal>
+        ensures { said_letter result ≡ conjugate_letter (letters_of self) letter }
+    {
+        if HIGHEST_LETTER < letter {
+            return Err(Refusal::UnknownLetter);
+        }
+        let power = tables::conjugate_power(self, letter);
+        Ok(Scaled { letter, power })
     }
-    LetterAnswer::Letter(letter, tables::conjugate_power(kind, letter))
-}
 
-// A letter in the letters of the other kind.
-pub fn convert(kind: Kind, letter: u8) -> LetterAnswer
-    ensures { said_letter result ≡ convert_letter (letters_of kind) (letters_of (other kind)) letter }
-{
-    if HIGHEST_LETTER < letter {
-        return LetterAnswer::Refused(Refusal::UnknownLetter);
+    // A letter in the letters of the other kind.
+    pub fn convert(self, letter: u8) -> Result<Scaled, Refusal>
+        ensures { said_letter result ≡ convert_letter (letters_of self) (letters_of (other self)) letter }
+    {
+        if HIGHEST_LETTER < letter {
+            return Err(Refusal::UnknownLetter);
+        }
+        let power = tables::convert_power(self, letter);
+        Ok(Scaled { letter, power })
     }
-    LetterAnswer::Letter(letter, tables::convert_power(kind, letter))
 }

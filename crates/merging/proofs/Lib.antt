@@ -2,6 +2,7 @@ pub mod PushLaws
 pub mod StepLaws
 pub mod MergeLaws
 pub mod PlaceLaws
+pub mod FindLaws
 pub mod HoldLaws
 pub mod ShiftLaws
 pub mod PutLaws

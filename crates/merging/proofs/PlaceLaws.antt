@@ -21,7 +21,6 @@ use Rattle.items.proofs.RecordLaws.{ascending, reach_most}
 use Rattle.items.proofs.Canonical.{canonical_span}
 use Rattle.items.proofs.Cursor.{Cursor, cursor_gap}
 use Rattle.merging.specs.Places.{place_of}
-use Rattle.merging.proofs.StepLaws.{next, next_in, next_there}
 use Rattle.items.proofs.ScanLaws.{Scan, scan_found, scan_done, first_within}
 
 -- ---- the place of a site
@@ -56,18 +55,11 @@ module _ (p : Items) (v : valid p ≡ true) where
             (eq-or-lt_of_le l);
       }
 
-  module _ {s n y : ℕ} (e : n ≡ place_of p s) (d : y ≡ next p n) where
-    -- the site is at its place
-    pub place_taken : s ≤ highest_site → y ≡ s → (n < p.count) × (at p.sites n ≡ s)
-    place_taken l q =
-        let m : n < p.count = next_there p n (omega arith) in
-        (m, sym (next_in p.count p.sites n m) ∙ sym d ∙ q)
-
-    -- or it is free
-    pub place_free : (y ≡ s → ⊥) → letter_at p s ≡ 0
-    place_free q =
-        let c = place_cursor e in
-        cursor_gap p v c s (omega arith) (λ m. omega (arith, c.after n (omega arith) m, next_in p.count p.sites n m))
+  -- a site that is not at its place is free
+  pub place_free : {s n : ℕ} → n ≡ place_of p s → (n < p.count → at p.sites n ≡ s → ⊥) → letter_at p s ≡ 0
+  place_free {s} {n} e q =
+      let c = place_cursor e in
+      cursor_gap p v c s (omega arith) (λ m. omega (arith, c.after n (omega arith) m, q m))
 
 -- ---- a place left
 

@@ -19,14 +19,14 @@ use Rattle.items.proofs.Canonical.{record_ext, canonical_span}
 use Rattle.merging.specs.Places.{place_of}
 use Rattle.merging.proofs.PlaceLaws.{place_cursor, free_room}
 use Rattle.merging.proofs.HoldLaws.{update_here, update_other, update_code, update_free, cast, holds_record}
-use Rattle.merging.proofs.ShiftLaws.{Ends, raised_none, raised_done, Opened, opened_high, lowered_none, lowered_done, Shut, Opening, Closing}
+use Rattle.merging.proofs.ShiftLaws.{Ends, Opened, opened_high, Shut}
 
 module _ (p : Items) (v : valid p ≡ true) where
   -- both arrays end with zeros
-  sites_end : Ends p.sites p.count
+  pub sites_end : Ends p.sites p.count
   sites_end = record { long = (valid_shape p v).sites_long; zeros = λ k a b. (valid_past p v k a b).0 }
 
-  letters_end : Ends p.letters p.count
+  pub letters_end : Ends p.letters p.count
   letters_end = record { long = (valid_shape p v).letters_long; zeros = λ k a b. (valid_past p v k a b).1 }
 
   -- two places have two sites
@@ -49,11 +49,6 @@ module _ (p : Items) (v : valid p ≡ true) where
     above l =
         let a = (place_cursor p v e).after n (omega arith) l in
         elim (dec_lt s (at p.sites n)) [ yes q ↦ q | no q ↦ absurd (other n l (omega arith)) ]
-
-    -- no place is moved
-    pub opening_none : Opening p.sites p.letters n p.count p.sites p.letters p.count
-    opening_none =
-        record { from = (place_cursor p v e).within; to = omega arith; sites_up = raised_none sites_end; letters_up = raised_none letters_end }
 
     module _ {sites letters : List ℕ} (os : Opened p.sites n s sites) (ol : Opened p.letters n x letters) where
       -- what holds of each of p's places and of the new one holds of each place
@@ -107,7 +102,7 @@ module _ (p : Items) (v : valid p ≡ true) where
           ]
 
       -- the record with the letter
-      insert_record : record { count = p.count + 1; sites = sites; letters = letters }
+      pub insert_record : record { count = p.count + 1; sites = sites; letters = letters }
           ≡ record_of (update (letter_at p) s x) (max (reach p) (suc s))
       insert_record =
           let room = free_room p v s low free in
@@ -136,19 +131,7 @@ module _ (p : Items) (v : valid p ≡ true) where
           (λ q. absurd (omega (arith, le-max_right (reach p) (suc s))))
           (letter-beyond p v t (omega (arith, le-max_left (reach p) (suc s)))))
 
-    -- every place is moved, and the site and the letter are stored
-    pub opening_done : {sites letters : List ℕ} {i : ℕ} → Opening p.sites p.letters n p.count sites letters i → i ≤ n
-        → record { count = p.count + 1; sites = set sites n s; letters = set letters n x } ≡ record_of (update (letter_at p) s x) (max (reach p) (suc s))
-    opening_done o l =
-        let fits : n < capacity = omega (arith, (place_cursor p v e).within, free_room p v s low free) in
-        insert_record (raised_done o.sites_up (omega (arith, o.from)) fits) (raised_done o.letters_up (omega (arith, o.from)) fits)
-
   -- ---- a place taken out
-
-  -- no place is moved
-  pub closing_none : {n last : ℕ} → n < p.count → suc last ≡ p.count → Closing p.sites p.letters n last p.sites p.letters n
-  closing_none {n} l e =
-      record { from = omega arith; to = omega arith; sites_down = lowered_none sites_end n; letters_down = lowered_none letters_end n }
 
   module _ {n last : ℕ} (there : n < p.count) (e : suc last ≡ p.count) {sites letters : List ℕ}
       (ss : Shut p.sites p.count n sites) (sl : Shut p.letters p.count n letters) where
@@ -196,7 +179,7 @@ module _ (p : Items) (v : valid p ≡ true) where
         ]
 
     -- the record without the letter
-    remove_record : record { count = last; sites = sites; letters = letters } ≡ record_of (update (letter_at p) (at p.sites n) 0) (reach p)
+    pub remove_record : record { count = last; sites = sites; letters = letters } ≡ record_of (update (letter_at p) (at p.sites n) 0) (reach p)
     remove_record =
         let f = letter_at p in
         let s = at p.sites n in
@@ -215,17 +198,6 @@ module _ (p : Items) (v : valid p ≡ true) where
         (update_code f s 0 (letter_code p v) (omega arith))
         (reach p)
         (λ t l. update_free f s 0 t (λ q. refl) (letter-beyond p v t l))
-
-  -- every place is moved, and zeros are stored
-  pub closing_done : {n last i : ℕ} {sites letters : List ℕ} → n < p.count → suc last ≡ p.count
-      → Closing p.sites p.letters n last sites letters i → last ≤ i
-      → record { count = last; sites = set sites last 0; letters = set letters last 0 } ≡ record_of (update (letter_at p) (at p.sites n) 0) (reach p)
-  closing_done {n} {last} l e o m =
-      let fits : last < capacity = omega (arith, (valid_shape p v).count_most) in
-      let i = o.to in
-      remove_record l e
-      (lowered_done sites_end o.sites_down (omega arith) e (omega arith) fits)
-      (lowered_done letters_end o.letters_down (omega arith) e (omega arith) fits)
 
   -- ---- a letter put for another
 

@@ -1,57 +1,26 @@
--- One site of a product read or set, and two products multiplied or joined: what the entries answer, and the first site that both occupy.
+-- Two products joined: the first site that both occupy, and what the product is where there is none.
 -- Assumes nothing.
-use mathlib.Core.Path.{◌≡◌, sym, ap, ◌∙◌}
-use mathlib.Core.Bool.{Bool, true, false}
-use mathlib.Core.List.{[], ◌∷◌}
-use Prim.Native.Nat.{ℕ, suc, ◌+◌, ◌%◌, ◌≤◌, ◌<◌, max}
+use Rattle.std.proofs.Common.{◌≡◌, Bool, true, false, ℕ, ◌+◌, ◌≤◌, ◌<◌, length, take, Option, Some, None, MatchOption, is_some, sym, ap, ◌∙◌, arith}
+use Rattle.std.specs.List.{AllWithin, HoldsAt}
+use mathlib.Core.Bool.{true≢false, false≢true}
 use native.Mathlib.Decide.{dec_lt}
-use native.Mathlib.Omega.{arith}
 use lib.Dec.{ltb}
-use borrow.Author.Tests.{lt-ltb, le-ltb, ltb-false, eq-eqb, ne_eqb}
+use borrow.Author.Tests.{lt-ltb, le-ltb, ltb-false}
+use Rattle.refusal.specs.Refusals.{done}
 use Rattle.letters.specs.Matrices.{Letters, letters_of}
-use Rattle.letters.specs.Single.{letter_of, power_of, times}
-use Rattle.letters.specs.Sums.{total}
+use Rattle.letters.specs.Single.{letter_of, times}
 use Rattle.letters.specs.declared.Kind.{Kind}
 use Rattle.letters.specs.declared.Kind.TheVariants.{Pauli}
-use Rattle.refusal.specs.Refusals.{gives, refuses, done}
-use Rattle.letters.proofs.TestLaws.{first_before}
-use Rattle.letters.proofs.TableLaws.{Closed, closed}
 use Rattle.letters.specs.Answers.{highest_letter}
+use Rattle.letters.proofs.TestLaws.{first_at_lem, first_none, first_before}
+use Rattle.letters.proofs.TableLaws.{Closed, closed}
 use Rattle.items.specs.Lists.{at}
-use Rattle.items.specs.Record.{highest_site, valid, letter_at, reach, reach_of, record_of, update}
-use Rattle.merging.specs.SiteAnswers.{get_answer, set_answer}
-use Rattle.merging.specs.ProductAnswers.{multiply_answer, first_occupied, concatenate_answer}
+use Rattle.items.specs.Record.{valid, letter_at, reach_of, record_of}
 use Rattle.items.specs.declared.Items.{Items}
 use Rattle.items.proofs.RecordLaws.{letter_code, letter_occupied}
 use Rattle.items.proofs.Canonical.{record_ext}
-use Rattle.items.proofs.ScanLaws.{Scan, scan_more, scan_found, scan_done}
-
--- ---- the entries on a site
-
--- a free site, and an occupied one
-pub get_free : (p : Items) (s l : ℕ) → valid p ≡ true → s ≤ highest_site → l ≡ letter_at p s → l ≡ 0 → gives [] ≡ get_answer p s
-unfolding get_answer
-get_free p s l v m e z = rw (v, le-ltb highest_site s m, eq-eqb (letter_at p s) 0 (sym e ∙ z))
-
-pub get_letter : (p : Items) (s l : ℕ) → valid p ≡ true → s ≤ highest_site → l ≡ letter_at p s → (l ≡ 0 → ⊥) → gives (l ∷ []) ≡ get_answer p s
-unfolding get_answer
-get_letter p s l v m e n = rw (v, le-ltb highest_site s m, ne_eqb (letter_at p s) 0 (λ z. n (e ∙ z)), e)
-
--- the record set
-pub set_done : (p : Items) (s l : ℕ) {q : Items} → valid p ≡ true → s ≤ highest_site → l ≤ highest_letter
-    → q ≡ record_of (update (letter_at p) s l) (max (reach p) (suc s)) → (done, q) ≡ set_answer p s l
-unfolding set_answer
-set_done p s l v m k e = rw (v, le-ltb highest_site s m, le-ltb highest_letter l k) (λ i. (done, e i))
-
--- ---- the product
-
--- the record of the product, and its power
-pub multiply-done : (M : Letters) (p q : Items) {power : ℕ} {items : Items} → valid p ≡ true → valid q ≡ true
-    → power ≡ total (λ s. power_of (times M (letter_at p s) (letter_at q s))) (reach_of p q) % 4
-    → items ≡ record_of (λ s. letter_of (times M (letter_at p s) (letter_at q s))) (reach_of p q)
-    → (done, (power, items)) ≡ multiply_answer M p q
-unfolding multiply_answer
-multiply-done M p q v w a b = rw (v, w) (λ i. (done, (a i, b i)))
+use Rattle.merging.proofs.FindLaws.{places_long, site_at}
+use Rattle.merging.specs.ProductAnswers.{first_occupied, concatenate_answer}
 
 -- ---- two products joined
 
@@ -59,20 +28,36 @@ multiply-done M p q v w a b = rw (v, w) (λ i. (done, (a i, b i)))
 abbrev pub occupies : Items → Items → ℕ → Bool
 occupies p q j = ltb 0 (letter_at p (at q.sites j))
 
--- one place more, whose site is free in p
-pub occupied_more : (p q : Items) {j l : ℕ} → Scan (occupies p q) q.count j → j < q.count
-    → l ≡ letter_at p (at q.sites j) → l ≤ 0 → Scan (occupies p q) q.count (j + 1)
-occupied_more p q {j} h m e z = scan_more h m (le-ltb 0 (letter_at p (at q.sites j)) (omega arith))
+-- a letter found, and none found
+pub letter_there : (r : Option ℕ) (x : ℕ) → MatchOption r (x ≡ 0) (λ l. (l ≡ x) × (0 < l)) → true ≡ is_some r → 0 < x
+letter_there None x e t = absurd (true≢false t)
+letter_there (Some l) x h t = omega arith
 
--- the first place whose site p occupies, and that there is none
-pub occupied_found : (p q : Items) {j l : ℕ} → Scan (occupies p q) q.count j → j < q.count
-    → l ≡ letter_at p (at q.sites j) → 0 < l → j ≡ first_occupied p q
-unfolding first_occupied
-occupied_found p q {j} h m e g = scan_found h m (lt-ltb 0 (letter_at p (at q.sites j)) (omega arith))
+pub letter_none : (r : Option ℕ) (x : ℕ) → MatchOption r (x ≡ 0) (λ l. (l ≡ x) × (0 < l)) → false ≡ is_some r → x ≡ 0
+letter_none None x e t = e
+letter_none (Some l) x h t = absurd (false≢true t)
 
-pub occupied_none : (p q : Items) {j : ℕ} → Scan (occupies p q) q.count j → q.count ≤ j → j ≡ first_occupied p q
+-- the first site of q's places that p occupies, and that there is none
+pub first_searched : (p q : Items) → valid q ≡ true → (r : Option ℕ)
+    → MatchOption r (AllWithin (λ x. letter_at p x ≡ 0) (take q.count q.sites) 0 (length (take q.count q.sites)))
+    (λ x. (0 < letter_at p x) × (i : ℕ) × (i < length (take q.count q.sites)) × HoldsAt (λ y. y ≡ x) (take q.count q.sites) i
+    × AllWithin (λ y. letter_at p y ≡ 0) (take q.count q.sites) 0 i)
+    → MatchOption r (first_occupied p q ≡ q.count) (λ s. (first_occupied p q < q.count) × (s ≡ at q.sites (first_occupied p q)))
 unfolding first_occupied
-occupied_none p q h l = scan_done h l
+first_searched p q w None all =
+    let long = places_long q w in
+    first_none (occupies p q) q.count 0
+    (λ k a l. le-ltb 0 (letter_at p (at q.sites k)) (omega (arith, site_at q w (λ x. letter_at p x ≡ 0) k (omega arith) (all k 0 (omega arith) (omega arith)))))
+    ∙ omega arith
+first_searched p q w (Some x) f =
+    let long = places_long q w in
+    let i = f.1 in
+    let l : i < q.count = omega (arith, f.2) in
+    let e : at q.sites i ≡ x = site_at q w (λ y. y ≡ x) i l (f.3 0) in
+    let o : first_occupied p q ≡ i = first_at_lem (occupies p q) q.count 0 i (omega arith) (omega arith)
+    (λ k a m. le-ltb 0 (letter_at p (at q.sites k)) (omega (arith, site_at q w (λ y. letter_at p y ≡ 0) k (omega arith) (f.4 k 0 (omega arith) m))))
+    (lt-ltb 0 (letter_at p (at q.sites i)) (omega (arith, f.0, ap (letter_at p) e))) in
+    (omega arith, sym (ap (at q.sites) o ∙ e))
 
 -- on each site at most one of the two has a letter
 one_letter : (p q : Items) → q.count ≤ first_occupied p q → (s : ℕ) → 0 < letter_at q s → letter_at p s ≡ 0
@@ -101,16 +86,9 @@ join_record kind p q v w h =
           | no g ↦ (let e : b ≡ 0 = omega arith in rw e (ap letter_of (k.times_zero a (omega arith)) ∙ small a l ∙ (let f : a ≡ a + 0 = omega arith in f)))
         ]
 
--- the first shared site is named
-pub join_refused : (p q : Items) (j s : ℕ) → valid p ≡ true → valid q ≡ true → j ≡ first_occupied p q → j < q.count → s ≡ at q.sites j
-    → (refuses 3 (s ∷ []), p) ≡ concatenate_answer p q
-unfolding concatenate_answer
-join_refused p q j s v w e l h = rw (v, w, ← e, lt-ltb j q.count l, h)
-
--- no site is shared
-pub join_done : (p q : Items) (j : ℕ) {items : Items} → valid p ≡ true → valid q ≡ true → j ≡ first_occupied p q → q.count ≤ j
+pub join_done : (p q : Items) {items : Items} → valid p ≡ true → valid q ≡ true → first_occupied p q ≡ q.count
     → items ≡ record_of (λ s. letter_of (times (letters_of Pauli) (letter_at p s) (letter_at q s))) (reach_of p q)
     → (done, items) ≡ concatenate_answer p q
 unfolding concatenate_answer
-join_done p q j v w e l h =
-    rw (v, w, ← e, le-ltb j q.count l) (λ i. (done, (h ∙ join_record Pauli p q v w (omega arith)) i))
+join_done p q v w e h =
+    rw (v, w, le-ltb (first_occupied p q) q.count (omega arith)) (λ i. (done, (h ∙ join_record Pauli p q v w (omega arith)) i))

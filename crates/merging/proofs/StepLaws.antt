@@ -1,18 +1,15 @@
--- One step of bringing two products together: the next site of each, the places that it looks at, and the answer of `letters::multiply` on two codes.
+-- One step of bringing two products together: the next site of each, the places that it looks at, and the answer of `Kind::multiply` on two codes.
 -- Assumes nothing.
-use mathlib.Core.Path.{◌≡◌, sym, ap, ◌∙◌}
-use mathlib.Core.List.{List}
-use mathlib.Core.Bool.{true}
-use Prim.Native.Nat.{ℕ, suc, ◌+◌, ◌≤◌, ◌<◌}
+use Rattle.std.proofs.Common.{◌≡◌, true, ℕ, suc, ◌+◌, ◌≤◌, ◌<◌, List, Result, Ok, Err, refl, sym, ap, ◌∙◌, arith}
+use Rattle.std.specs.Result.{IsOk}
 use native.Mathlib.Decide.{dec_lt}
-use native.Mathlib.Omega.{arith}
 use borrow.Author.Tests.{lt-ltb, le-ltb}
-use Rattle.refusal.specs.Refusals.{Said, gives, refuses, number, site_of}
+use Rattle.refusal.specs.Refusals.{gives, said_by}
 use Rattle.refusal.specs.declared.Refusal.{Refusal}
 use Rattle.letters.specs.Matrices.{Letters}
 use Rattle.letters.specs.Single.{letter_of, power_of, times}
 use Rattle.letters.specs.Answers.{said_letter, multiply_letters, highest_letter}
-use Rattle.letters.specs.declared.LetterAnswer.{LetterAnswer}
+use Rattle.letters.specs.declared.Scaled.{Scaled}
 use Rattle.items.specs.Lists.{at}
 use Rattle.items.specs.Record.{highest_site, valid}
 use Rattle.merging.specs.Places.{next_site}
@@ -33,11 +30,6 @@ next_in count sites i h = rw (lt-ltb i count h)
 pub next_out : (count : ℕ) (sites : List ℕ) (i : ℕ) → count ≤ i → next_site count sites i ≡ suc highest_site
 unfolding next_site
 next_out count sites i h = rw (le-ltb i count h)
-
--- one that is a site has a place
-pub next_there : (p : Items) (i : ℕ) → next p i ≤ highest_site → i < p.count
-next_there p i h =
-    elim (dec_lt i p.count) [ yes l ↦ l | no l ↦ absurd (omega (arith, next_out p.count p.sites i (omega arith))) ]
 
 -- ---- the places of a step, from the next sites a of p and b of q, where a place is left
 
@@ -64,25 +56,25 @@ module _ (p q : Items) (v : valid p ≡ true) (w : valid q ≡ true) (i j : ℕ)
 
 -- ---- the answer on two codes
 
--- no refusal
-multiplied : (M : Letters) (l r : ℕ) → l < 4 → r < 4 → multiply_letters M l r ≡ gives (letter_of (times M l r), power_of (times M l r))
-unfolding multiply_letters
-multiplied M l r h k = rw (le-ltb highest_letter l (omega arith), le-ltb highest_letter r (omega arith))
+-- a result that gives a value is one
+said_ok : {V A : Type 0} (show : V → A) (x : Result V Refusal) (a : A) → said_by show x ≡ gives a → IsOk x
+said_ok show (Ok y) a e = refl
+said_ok show (Err why) a e = cc
 
--- so an answer with a letter has the product, and there is no other
-pub shared_letter : (M : Letters) (l r : ℕ) → l < 4 → r < 4
-    → {x : LetterAnswer} {a b : ℕ} → x ≡ LetterAnswer.Letter a b → said_letter x ≡ multiply_letters M l r
-    → (a ≡ letter_of (times M l r)) × (b ≡ power_of (times M l r))
-shared_letter M l r h k {x} {a} {b} e s =
-    let said : ◌≡◌ {A = Said (ℕ × ℕ)} (gives (a, b)) (gives (letter_of (times M l r), power_of (times M l r))) =
-    sym (ap said_letter e) ∙ s ∙ multiplied M l r h k in
-    let pair : ◌≡◌ {A = ℕ × ℕ} (a, b) (letter_of (times M l r), power_of (times M l r)) = cc in
-    (ap (λ (y : ℕ × ℕ). y.0) pair, ap (λ (y : ℕ × ℕ). y.1) pair)
+-- and its value reads so
+said_value : {V A : Type 0} (show : V → A) (x : Result V Refusal) (y : V) (a : A) → x ≡ Ok y → said_by show x ≡ gives a → show y ≡ a
+said_value show x y a q e = let f : gives (show y) ≡ gives a = sym (ap (said_by show) q) ∙ e in cc
 
-pub shared_refused : (M : Letters) (l r : ℕ) → l < 4 → r < 4
-    → {x : LetterAnswer} {why : Refusal} → x ≡ LetterAnswer.Refused why → said_letter x ≡ multiply_letters M l r → ⊥
-shared_refused M l r h k {x} {why} e s =
-    let said : ◌≡◌ {A = Said (ℕ × ℕ)} (refuses (number why) (site_of why)) (gives (letter_of (times M l r), power_of (times M l r))) =
-    sym (ap said_letter e) ∙ s ∙ multiplied M l r h k in
-    let z : ◌≡◌ {A = ℕ} 0 1 = cc in
-    omega arith
+-- of two codes below 4 `multiply` gives the product
+module _ (M : Letters) (l r : ℕ) (h : l < 4) (k : r < 4) (x : Result Scaled Refusal) (e : said_letter x ≡ multiply_letters M l r) where
+  multiplied : said_letter x ≡ gives (letter_of (times M l r), power_of (times M l r))
+  unfolding multiply_letters
+  multiplied = e ∙ rw (le-ltb highest_letter l (omega arith), le-ltb highest_letter r (omega arith)) refl
+
+  pub shared_ok : IsOk x
+  shared_ok = said_ok (λ y. (y.letter, y.power)) x _ multiplied
+
+  pub shared_value : (y : Scaled) → x ≡ Ok y → (y.letter ≡ letter_of (times M l r)) × (y.power ≡ power_of (times M l r))
+  shared_value y q =
+      let p = said_value (λ z. (z.letter, z.power)) x y _ q multiplied in
+      (ap (λ (u : ℕ × ℕ). u.0) p, ap (λ (u : ℕ × ℕ). u.1) p)

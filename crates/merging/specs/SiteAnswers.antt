@@ -1,11 +1,11 @@
 -- What reading and setting one site of a product answer, refusals first in the order of their numbers. Document 01: pauli_product.rs,
 -- decoherence_product.rs and `Numbers of the no`. Beside a refusal stands the record given.
-use Rattle.std.specs.Prelude.{List, [], ◌∷◌, not, cond, ℕ, suc, max, ltb, eqb}
-use Rattle.refusal.specs.Refusals.{Said, gives, refuses, done, number, site_of}
+use Rattle.std.specs.Prelude.{Option, Result, List, [], ◌∷◌, not, cond, ℕ, suc, max, ltb, eqb}
+use Rattle.refusal.specs.Refusals.{Said, gives, refuses, done, listed, said_by}
+use Rattle.refusal.specs.declared.Refusal.{Refusal}
 use Rattle.letters.specs.Answers.{highest_letter}
 use Rattle.items.specs.Record.{highest_site, valid, letter_at, reach, record_of, update}
 use Rattle.items.specs.declared.Items.{Items}
-use Rattle.items.specs.declared.Got.{Got}
 
 -- the letter on a site; none on a free one
 unfoldable pub get_answer : Items → ℕ → Said (List ℕ)
@@ -22,9 +22,6 @@ set_answer p s l =
     (cond (ltb highest_letter l) (refuses 2 [], p)
     (done, record_of (update (letter_at p) s l) (max (reach p) (suc s)))))
 
--- ---- what each case of an answer says, and the record beside it
-
-abbrev pub said_got : Got → Said (List ℕ)
-said_got (Got.Letter l) = gives (l ∷ [])
-said_got Got.Free = gives []
-said_got (Got.Refused why) = refuses (number why) (site_of why)
+-- what an answer says: the letter as a list of one, none on a free site
+abbrev pub said_got : Result (Option ℕ) Refusal → Said (List ℕ)
+said_got r = said_by listed r

@@ -1,59 +1,34 @@
 // Two products brought together site by site, in one pass over both.
-ghost use Rattle.std.specs.Prelude.{◌≡◌, true, ◌<◌, ◌+◌, ◌≤◌, ◌%◌};
-ghost use Rattle.items.specs.Record.{capacity, valid, letter_at, reach_of, record_of};
+ghost use Rattle.std.specs.Prelude.{◌≡◌, ◌≤◌, ◌%◌};
+ghost use Rattle.items.specs.Record.{capacity, letter_at, reach_of, record_of};
 ghost use Rattle.merging.specs.Places.{next_site};
 ghost use Rattle.letters.specs.Matrices.{letters_of};
 ghost use Rattle.letters.specs.Single.{letter_of, power_of, times};
 ghost use Rattle.letters.specs.Sums.{total};
 
-use items::{CAPACITY, HIGHEST_SITE, Items, Site, wide};
-use letters::{Kind, LetterAnswer};
-
-// The letter and the power of i of a site that both products occupy.
-#[derive(Clone, Copy)]
-struct SharedLetter {
-    pub letter: u8,
-    pub power: u8,
-}
-
-// A product times i to a power.
-#[derive(Clone, Copy)]
-pub(crate) struct ScaledItems {
-    pub power: u8,
-    pub items: Items,
-}
+use items::valid::ValidItems;
+use items::{CAPACITY, HIGHEST_SITE, Items, ScaledItems, Site};
+use letters::Kind;
 
 // The site at a place, or a number above every site.
-pub(crate) fn next_site<'a>(count: usize, sites: &'a [Site; CAPACITY], i: usize) -> usize
+fn next_site(count: usize, sites: &[Site; CAPACITY], i: usize) -> usize
     requires { count ≤ capacity }
     ensures { result ≡ next_site count sites.now i }
 {
     if i < count {
-        return wide(sites[i]);
+        return usize::from(sites[i]);
     }
-    wide(HIGHEST_SITE) + 1
+    usize::from(HIGHEST_SITE) + 1
 }
 
-// The product of the letters of a site that both products occupy. Letters below 4 are not refused: the second arm is never taken.
-fn shared_site(kind: Kind, left: u8, right: u8) -> SharedLetter
-    requires { (left < 4) × (right < 4) }
-    ensures { (result.letter ≡ letter_of (times (letters_of kind) left right)) × (result.power ≡ power_of (times (letters_of kind) left right)) }
+// The product of two products, with its power of i: one pass over both, into arrays of its own. Each turn takes the lower of the next two sites,
+// or both where they are the same, so that no iterator goes over either alone.
+pub(crate) fn merged(kind: Kind, left: &ValidItems, right: &ValidItems) -> ScaledItems
+    ensures power { result.power ≡ total (λ s. power_of (times (letters_of kind) (letter_at left.now.items s) (letter_at right.now.items s))) (reach_of left.now.items right.now.items) % 4 }
+    ensures items { result.items ≡ record_of (λ s. letter_of (times (letters_of kind) (letter_at left.now.items s) (letter_at right.now.items s))) (reach_of left.now.items right.now.items) }
 {
-    match letters::multiply(kind, left, right) {
-        LetterAnswer::Letter(letter, power) => SharedLetter { letter, power },
-        LetterAnswer::Refused(_) => SharedLetter {
-            letter: 0,
-            power: 0,
-        },
-    }
-}
-
-// The product of two products, with its power of i: one pass over both, into arrays of its own.
-pub(crate) fn merged(kind: Kind, p: Items, q: Items) -> ScaledItems
-    requires { (valid p ≡ true) × (valid q ≡ true) }
-    ensures power { result.power ≡ total (λ s. power_of (times (letters_of kind) (letter_at p s) (letter_at q s))) (reach_of p q) % 4 }
-    ensures items { result.items ≡ record_of (λ s. letter_of (times (letters_of kind) (letter_at p s) (letter_at q s))) (reach_of p q) }
-{
+    let p = left.items;
+    let q = right.items;
     let total = p.count + q.count;
     let mut sites: [Site; CAPACITY] = [0; CAPACITY];
     let mut letters: [u8; CAPACITY] = [0; CAPACITY];
@@ -75,7 +50,7 @@ pub(crate) fn merged(kind: Kind, p: Items, q: Items) -> ScaledItems
             count += 1;
             j += 1;
         } else {
-            let x = shared_site(kind, p.letters[i], q.letters[j]);
+            let x = kind.multiply(p.letters[i], q.letters[j]).unwrap();
             if 0 < x.letter {
                 sites[count] = p.sites[i];
                 letters[count] = x.letter;

@@ -13,7 +13,7 @@ use complex::Complex;
 use items::{SITE_COUNT, Site};
 use noise_sets::NoiseSet;
 use operators::decoherence_operator::DecoherenceOperator;
-use products::decoherence_product::DecoherenceProduct;
+use products::DecoherenceProduct;
 use refusal::Outcome;
 use term_sets::{GetAnswer, SetAnswer};
 

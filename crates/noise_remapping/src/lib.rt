@@ -4,7 +4,8 @@
 ghost use Rattle.std.specs.Prelude.{◌≡◌};
 ghost use Rattle.items.specs.Lists.{at};
 ghost use Rattle.noise_sets.specs.Answers.{told};
-ghost use Rattle.noise_remapping.specs.RemapAnswers.{remap_set};
+ghost use Rattle.refusal.specs.Refusals.{said_by};
+ghost use Rattle.noise_remapping.specs.RemapAnswers.{remap_step, remap_set};
 
 use complex::Complex;
 use items::{SITE_COUNT, Site};
@@ -14,6 +15,20 @@ use noise_writing::{all_in_range, without};
 use refusal::{Outcome, Refusal};
 use term_writing::numbers::{close_up, place_of};
 use terms::MOST_TERMS;
+
+// A term with its products moved to the targets of their sites; the left product refused is told before the right one.
+#[tactic(auto, unfolding(crate::specs::RemapAnswers::remap_step))]
+fn moved(x: &NoiseTerm, targets: &[Site; SITE_COUNT]) -> Result<NoiseTerm, Refusal>
+    ensures { said_by (λ t. t) result ≡ remap_step (at targets.now) x.now }
+{
+    let left = remapping::remap_qubits(&x.left, targets)?;
+    let right = remapping::remap_qubits(&x.right, targets)?;
+    Ok(NoiseTerm {
+        left,
+        right,
+        coefficient: x.coefficient,
+    })
+}
 
 // Every term with its products moved to the targets of their sites, added up in the places of one set; the first product refused refuses the call,
 // of one term the left before the right.
@@ -31,28 +46,18 @@ pub fn remap_qubits(s: NoiseSet, targets: [Site; SITE_COUNT]) -> NoiseSetAnswer
     let mut i = 0;
     while i < s.count {
         let x = s.terms[i];
-        let l = x.left;
-        let r = x.right;
-        let value = x.coefficient;
         i += 1;
-        let left = remapping::remap_qubits(l, targets);
-        let first = left.outcome;
-        if let Outcome::Refused(why) = first {
-            return NoiseSetAnswer {
-                outcome: Outcome::Refused(why),
-                set: s,
-            };
-        }
-        let right = remapping::remap_qubits(r, targets);
-        let second = right.outcome;
-        if let Outcome::Refused(why) = second {
-            return NoiseSetAnswer {
-                outcome: Outcome::Refused(why),
-                set: s,
-            };
-        }
-        let p = left.items;
-        let q = right.items;
+        let y = match moved(&x, &targets) {
+            Ok(y) => y,
+            Err(why) => {
+                return NoiseSetAnswer {
+                    outcome: Outcome::Refused(why),
+                    set: s,
+                };
+            }
+        };
+        let p = y.left;
+        let q = y.right;
         let number = number_of(p, q);
         let n = out.count;
         let mut at = place_of(&numbers, n, number);
@@ -67,7 +72,7 @@ pub fn remap_qubits(s: NoiseSet, targets: [Site; SITE_COUNT]) -> NoiseSetAnswer
             let u = out.terms[at];
             old = u.coefficient;
         }
-        let sum = old.sum(value);
+        let sum = old.sum(y.coefficient);
         if sum.is_zero() {
             if at < n {
                 out = without(out, at);

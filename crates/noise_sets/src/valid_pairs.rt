@@ -1,16 +1,14 @@
 // Whether number 0 lets a noise set pass: its held terms, and the zero records past them; and the masks of those terms.
-ghost use Rattle.std.specs.Prelude.{◌≡◌, not, ◌&&◌, cond, ◌≤◌, drop};
+ghost use Rattle.std.specs.Prelude.{◌≡◌, not, ◌&&◌, cond, ◌≤◌, drop, Some, None};
 ghost use Rattle.noise_sets.specs.Pairs.{is_blank, good_key, good_coefficient, held_by, good_term};
 ghost use Rattle.complex.specs.Complex.{is_zero, in_range};
-ghost use Rattle.items.specs.Record.{valid};
-ghost use Rattle.items.specs.Verdicts.{judged_masks};
+ghost use Rattle.items.specs.Masks.{masks_of};
 ghost use Rattle.noise_sets.specs.PairMasks.{no_masks, held_masks, pair_masks};
 ghost use Rattle.terms.specs.Keyed.{each};
 ghost use Rattle.terms.specs.Setting.{most_terms};
 
 use crate::{NoiseSet, NoiseTerm, empty_side};
 use complex::Complex;
-use items::Items;
 use marks::{is_new_pair_marked, pair_mark_of};
 use terms::MOST_TERMS;
 
@@ -32,10 +30,10 @@ fn is_blank(t: NoiseTerm) -> bool
     let p = t.left;
     let q = t.right;
     let c = t.coefficient;
-    if !items::is_empty(p) {
+    if !p.is_empty() {
         return false;
     }
-    if !items::is_empty(q) {
+    if !q.is_empty() {
         return false;
     }
     if complex::is_plus_zero(c.re) {
@@ -54,45 +52,19 @@ fn good_coefficient(c: Complex) -> bool
     !c.is_zero()
 }
 
-// Whether a term is as a valid set holds it, but for the keys of the others, where number 0 of its products is told.
-fn good_parts(left: bool, right: bool, p: Items, q: Items, c: Complex) -> bool
-    requires { (left ≡ valid p) × (right ≡ valid q) }
-    ensures { result ≡ (good_key (p, q) && good_coefficient c) }
-{
-    if !left {
-        return false;
-    }
-    if !right {
-        return false;
-    }
-    if empty_side(p, q) {
-        return false;
-    }
-    good_coefficient(c)
-}
-
-// Whether it is, and the masks of its products, where number 0 lets them pass.
-#[derive(Clone, Copy)]
-struct PairVerdict {
-    good: bool,
-    left: u64,
-    right: u64,
-}
-
-fn judged_alone(t: NoiseTerm) -> PairVerdict
-    ensures { (result.good ≡ (good_key (t.left, t.right) && good_coefficient t.coefficient)) × ((result.left ≡ judged_masks t.left) × (result.right ≡ judged_masks t.right)) }
+// The masks of the products of a term that is as a valid set holds it, but for the keys of the others; none of any other term.
+fn judged_alone(t: NoiseTerm) -> Option<(u64, u64)>
+    ensures { result ≡ cond (good_key (t.left, t.right) && good_coefficient t.coefficient) (Some (masks_of t.left, masks_of t.right)) None }
 {
     let p = t.left;
     let q = t.right;
     let c = t.coefficient;
-    let v = items::judged(p);
-    let w = items::judged(q);
-    let good = good_parts(v.valid, w.valid, p, q, c);
-    PairVerdict {
-        good,
-        left: v.masks,
-        right: w.masks,
+    let left = p.judged()?;
+    let right = q.judged()?;
+    if empty_side(p, q) || !good_coefficient(c) {
+        return None;
     }
+    Some((left, right))
 }
 
 // The answer on a set that number 0 does not let pass.
@@ -124,19 +96,18 @@ fn gathered(s: NoiseSet) -> PairMasks
     let mut i: usize = 0;
     while i < n {
         let t = s.terms[i];
-        let v = judged_alone(t);
-        if !v.good {
+        let Some((x, y)) = judged_alone(t) else {
             return refused();
-        }
-        if !is_new_pair_marked(&marks, &lefts, &rights, i, v.left, v.right) {
+        };
+        if !is_new_pair_marked(&marks, &lefts, &rights, i, x, y) {
             return refused();
         }
         let c = t.coefficient;
-        lefts[i] = v.left;
-        rights[i] = v.right;
+        lefts[i] = x;
+        rights[i] = y;
         re[i] = c.re;
         im[i] = c.im;
-        let at = pair_mark_of(v.left, v.right);
+        let at = pair_mark_of(x, y);
         marks[at] = 1;
         i += 1;
     }

@@ -6,7 +6,6 @@ ghost use Rattle.noise_sets.specs.Pairs.{held_by};
 ghost use Rattle.noise_writing.specs.Numbers.{pair_number, term_number};
 
 use items::Items;
-use items::masks::masks;
 use noise_sets::NoiseSet;
 use term_sets::held_count;
 use terms::MOST_TERMS;
@@ -18,7 +17,7 @@ const MASKS_TAKEN: u64 = 4611686018427387904;
 pub fn number_of(left: Items, right: Items) -> u64
     ensures { result ≡ pair_number (left, right) }
 {
-    masks(left) % MASKS_TAKEN + 3 * (masks(right) % MASKS_TAKEN)
+    left.masks() % MASKS_TAKEN + 3 * (right.masks() % MASKS_TAKEN)
 }
 
 // The numbers of a set's keys, place by place.

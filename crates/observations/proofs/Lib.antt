@@ -1,2 +1,2 @@
-pub mod KeptLaws
 pub mod SameLaws
+pub mod NumberLaws

@@ -16,18 +16,18 @@ abbrev pub bits_of : Float → ℕ
 bits_of x = cond (eq x x) (to_bits binary64 x) 18446744073709551615
 
 -- parts, to the bit or as numbers
-unfoldable pub same_part : Bool → Float → Float → Bool
+abbrev pub same_part : Bool → Float → Float → Bool
 same_part exact x y = cond exact (eqb (bits_of x) (bits_of y)) (eq x y)
 
-unfoldable pub same_number : Bool → Complex → Complex → Bool
+abbrev pub same_number : Bool → Complex → Complex → Bool
 same_number exact a b = same_part exact a.re b.re && same_part exact a.im b.im
 
 -- two terms, and two pairs
-unfoldable pub same_term : Bool → Term → Term → Bool
+abbrev pub same_term : Bool → Term → Term → Bool
 same_term exact t u = same_items t.items u.items && same_number exact t.coefficient u.coefficient
 
-unfoldable pub same_pair : Bool → NoiseTerm → NoiseTerm → Bool
-same_pair exact t u = same_items t.left u.left && (same_items t.right u.right && same_number exact t.coefficient u.coefficient)
+abbrev pub same_pair : Bool → NoiseTerm → NoiseTerm → Bool
+same_pair exact t u = same_items t.left u.left && same_items t.right u.right && same_number exact t.coefficient u.coefficient
 
 -- lists of one length whose elements are the same, place by place
 unfoldable pub same_lists : {A : Type 0} → (A → A → Bool) → List A → List A → Bool

@@ -26,7 +26,7 @@ use crate::writing::{write_hamiltonian, write_noise};
 use hamiltonians::pauli_hamiltonian::complex_terms;
 use open_system::PauliLindbladOpenSystem;
 use outside_sites::outside_site;
-use refusal::{Carried, Refusal};
+use refusal::Refusal;
 use row_entries::{MOST_SPINS, superoperator_size};
 use rows::{Delivery, deliver_both};
 use terms::MOST_TERMS;
@@ -123,7 +123,7 @@ pub fn row(
     let lefts = n.lefts;
     let rights = n.rights;
     if !system_fits(&masks, h.count, &lefts, &rights, n.count, spins) {
-        if let Carried::Site(site) = outside_site(complex_terms(s.system), s.noise.set, spins) {
+        if let Some(site) = outside_site(complex_terms(s.system), s.noise.set, spins) {
             return Delivery::Refused(Refusal::SiteOutsideSpins(site));
         }
     }

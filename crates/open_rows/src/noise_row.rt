@@ -19,7 +19,7 @@ use crate::writing::write_noise;
 use noise::pauli_noise_operator::PauliLindbladNoiseOperator;
 use noise_sets::valid_pairs::masked;
 use outside_sites::of_noise;
-use refusal::{Carried, Refusal};
+use refusal::Refusal;
 use row_entries::{MOST_SPINS, superoperator_size};
 use rows::{Delivery, deliver};
 use terms::MOST_TERMS;
@@ -83,7 +83,7 @@ pub fn noise_row(
     let lefts = n.lefts;
     let rights = n.rights;
     if !pairs_fit(&lefts, &rights, n.count, spins) {
-        if let Carried::Site(site) = of_noise(s.set, spins) {
+        if let Some(site) = of_noise(s.set, spins) {
             return Delivery::Refused(Refusal::SiteOutsideSpins(site));
         }
     }

@@ -22,7 +22,7 @@ use hamiltonians::pauli_hamiltonian::{PauliHamiltonian, complex_terms};
 use letters::Kind;
 use operators::pauli_operator::PauliOperator;
 use outside_sites::of_operator;
-use refusal::{Carried, Refusal};
+use refusal::Refusal;
 use row_entries::{MOST_SPINS, size_of, superoperator_size};
 use rows::{Delivery, deliver};
 use term_sets::TermSet;
@@ -86,8 +86,8 @@ fn operator_row_of(
         return Delivery::Refused(Refusal::RowOutOfRange);
     }
     match of_operator(s, spins) {
-        Carried::Site(site) => Delivery::Refused(Refusal::SiteOutsideSpins(site)),
-        Carried::Nothing => deliver_operator(kind, s, spins, row, out_columns, out_re, out_im),
+        Some(site) => Delivery::Refused(Refusal::SiteOutsideSpins(site)),
+        None => deliver_operator(kind, s, spins, row, out_columns, out_re, out_im),
     }
 }
 
@@ -110,8 +110,8 @@ fn commutator_row_of(
         return Delivery::Refused(Refusal::RowOutOfRange);
     }
     match of_operator(s, spins) {
-        Carried::Site(site) => Delivery::Refused(Refusal::SiteOutsideSpins(site)),
-        Carried::Nothing => deliver_commutator(s, spins, row, out_columns, out_re, out_im),
+        Some(site) => Delivery::Refused(Refusal::SiteOutsideSpins(site)),
+        None => deliver_commutator(s, spins, row, out_columns, out_re, out_im),
     }
 }
 

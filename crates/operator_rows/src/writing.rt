@@ -10,7 +10,6 @@ ghost use Rattle.term_sets.specs.Complexes.{items_of};
 ghost use Rattle.contributions.specs.TermContributions.{operator_contributions, commutator_contributions};
 
 use contributions::{put, put_commutator};
-use items::masks::masks;
 use letters::Kind;
 use row_entries::operator_entry;
 use term_sets::{TermSet, held_count};
@@ -33,7 +32,7 @@ pub(crate) fn write_operator(
     while i < n {
         let t = s.terms[i];
         let a = t.coefficient;
-        let e = operator_entry(kind, masks(t.items), spins, row);
+        let e = operator_entry(kind, t.items.masks(), spins, row);
         let value = a.product(complex::unit_of_i(e.power));
         put(e.column, value, i, columns, re, im);
         i += 1;
@@ -58,7 +57,7 @@ pub(crate) fn write_commutator(
     while i < n {
         let t = s.terms[i];
         put_commutator(
-            masks(t.items),
+            t.items.masks(),
             t.coefficient,
             spins,
             row,

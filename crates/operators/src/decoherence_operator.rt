@@ -10,7 +10,7 @@ ghost use Rattle.operators.specs.Kinds.{told_decoherence_set, told_decoherence};
 use crate::pauli_operator::PauliOperator;
 use complex::Complex;
 use letters::Kind;
-use products::decoherence_product::DecoherenceProduct;
+use products::DecoherenceProduct;
 use refusal::Outcome;
 use term_sets::{GetAnswer, SetAnswer, TermSet};
 

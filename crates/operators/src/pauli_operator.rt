@@ -11,7 +11,7 @@ ghost use Rattle.operators.specs.Kinds.{told_pauli_set, told_pauli};
 use complex::Complex;
 use hamiltonians::pauli_hamiltonian::PauliHamiltonian;
 use letters::Kind;
-use products::pauli_product::PauliProduct;
+use products::PauliProduct;
 use refusal::Outcome;
 use term_sets::{GetAnswer, SetAnswer, TermSet};
 

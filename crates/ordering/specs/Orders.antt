@@ -1,13 +1,14 @@
 -- The orders of products. Document 01, `cmp`.
-use Rattle.std.specs.Prelude.{ℕ, zero, suc, List, [], ◌∷◌, ◌++◌, not, cond, ltb, take}
-use Rattle.refusal.specs.Refusals.{Said, gives, refuses, number, site_of}
+use Rattle.std.specs.Prelude.{ℕ, zero, suc, List, [], ◌∷◌, ◌++◌, not, cond, ltb, take, Result}
+use Rattle.std.specs.declared.cmp.Ordering.{Ordering}
+use Rattle.std.specs.declared.cmp.Ordering.TheVariants.{Less, Equal, Greater}
+use Rattle.refusal.specs.Refusals.{Said, gives, refuses, said_by}
+use Rattle.refusal.specs.declared.Refusal.{Refusal}
 use Rattle.letters.specs.declared.Kind.{Kind}
 use Rattle.letters.specs.declared.Kind.TheVariants.{Pauli, Decoherence}
 use Rattle.items.specs.Lists.{at}
 use Rattle.items.specs.Record.{valid}
 use Rattle.items.specs.declared.Items.{Items}
-use Rattle.ordering.specs.declared.Compared.{Compared}
-use Rattle.ordering.specs.declared.Ordering.{Ordering}
 
 pub data Order : Type 0 where
   less : Order
@@ -56,14 +57,11 @@ compare_answer kind p q =
     (cond (not (valid q)) (refuses 0 [])
     (gives (compare_items kind p q)))
 
-abbrev pub said_order : Compared → Said Order
-said_order Compared.Less = gives less
-said_order Compared.Equal = gives equal
-said_order Compared.Greater = gives greater
-said_order (Compared.Refused why) = refuses (number why) (site_of why)
-
 -- the order that a value of the code says
 abbrev pub ordering : Ordering → Order
-ordering Ordering.Less = less
-ordering Ordering.Equal = equal
-ordering Ordering.Greater = greater
+ordering Less = less
+ordering Equal = equal
+ordering Greater = greater
+
+abbrev pub said_order : Result Ordering Refusal → Said Order
+said_order r = said_by ordering r

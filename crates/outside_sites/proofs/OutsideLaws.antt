@@ -9,6 +9,8 @@ use lib.Dec.{ltb}
 use lib.ListN.{length, take, drop, get_or, drop_of_length-le}
 use lib.Seq.{drop-cons, get_or-take, length-take-le}
 use borrow.Author.Tests.{lt-ltb, le-ltb, ltb-true, ltb-false}
+use Rattle.std.specs.Prelude.{Option, Some, None}
+use Rattle.refusal.specs.Refusals.{listed}
 use Rattle.items.specs.Record.{reach}
 use Rattle.items.specs.declared.Items.{Items}
 use Rattle.terms.specs.Keyed.{concat_map}
@@ -59,6 +61,12 @@ outside_found n (p ∷ a) b e =
     by_test (ltb n (reach p))
     (λ q. let l = ltb-true n (reach p) q in first_outside n p (a ++ b) refl l ∙ sym (first_outside n p a refl l) ∙ e)
     (λ q. let l = ltb-false n (reach p) q in first_inside n p (a ++ b) refl l ∙ outside_found n a b (sym (first_inside n p a refl l) ∙ e))
+
+-- a site o of the first list, and r, which is o or, where there is none, one of the second list
+pub outside_either : (n : ℕ) (a b : List Items) (o r : Option ℕ) → listed o ≡ outside n a → (o ≡ None → listed r ≡ outside n b) → ((s : ℕ) → o ≡ Some s → r ≡ Some s)
+    → listed r ≡ outside n (a ++ b)
+outside_either n a b None r e f g = f refl ∙ sym (outside_past n a b (sym e))
+outside_either n a b (Some s) r e f g = ap listed (g s refl) ∙ sym (outside_found n a b (sym e))
 
 -- ---- the search in a set: t are its places, m of them hold terms, and g t are the products of the term t
 

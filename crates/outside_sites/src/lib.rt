@@ -2,62 +2,57 @@
 #![tactic(auto)]
 
 ghost use Rattle.std.specs.Prelude.{◌≡◌};
-ghost use Rattle.refusal.specs.Refusals.{carried};
+ghost use Rattle.refusal.specs.Refusals.{listed};
 ghost use Rattle.rows.specs.Calls.{outside};
 ghost use Rattle.term_sets.specs.Complexes as complexes;
 ghost use Rattle.term_sets.specs.Complexes.{items_of};
 ghost use Rattle.noise_sets.specs.Pairs as pairs;
 ghost use Rattle.outside_sites.specs.SystemItems.{system_items};
 
-use items::reach_of;
 use noise_sets::NoiseSet;
-use refusal::Carried;
 use term_sets::{TermSet, held_count};
 
 // Of an operator's terms.
-pub fn of_operator(s: TermSet, spins: u32) -> Carried
-    ensures { carried result ≡ outside spins (items_of (complexes.held_by s)) }
+pub fn of_operator(s: TermSet, spins: u32) -> Option<usize>
+    ensures { listed result ≡ outside spins (items_of (complexes.held_by s)) }
 {
     let n = held_count(s.count);
     let mut i = 0;
     while i < n {
         let t = s.terms[i];
-        let reach = reach_of(t.items);
+        let reach = t.items.reach();
         if (spins as usize) < reach {
-            return Carried::Site(reach - 1);
+            return Some(reach - 1);
         }
         i += 1;
     }
-    Carried::Nothing
+    None
 }
 
 // Of a noise set's terms, left side first.
-pub fn of_noise(s: NoiseSet, spins: u32) -> Carried
-    ensures { carried result ≡ outside spins (pairs.sides_of (pairs.held_by s)) }
+pub fn of_noise(s: NoiseSet, spins: u32) -> Option<usize>
+    ensures { listed result ≡ outside spins (pairs.sides_of (pairs.held_by s)) }
 {
     let n = held_count(s.count);
     let mut i = 0;
     while i < n {
         let t = s.terms[i];
-        let left = reach_of(t.left);
+        let left = t.left.reach();
         if (spins as usize) < left {
-            return Carried::Site(left - 1);
+            return Some(left - 1);
         }
-        let right = reach_of(t.right);
+        let right = t.right.reach();
         if (spins as usize) < right {
-            return Carried::Site(right - 1);
+            return Some(right - 1);
         }
         i += 1;
     }
-    Carried::Nothing
+    None
 }
 
 // Of both parts of a system, the Hamiltonian before the noise.
-pub fn outside_site(h: TermSet, n: NoiseSet, spins: u32) -> Carried
-    ensures { carried result ≡ outside spins (system_items (complexes.held_by h) (pairs.held_by n)) }
+pub fn outside_site(h: TermSet, n: NoiseSet, spins: u32) -> Option<usize>
+    ensures { listed result ≡ outside spins (system_items (complexes.held_by h) (pairs.held_by n)) }
 {
-    match of_operator(h, spins) {
-        Carried::Site(site) => Carried::Site(site),
-        Carried::Nothing => of_noise(n, spins),
-    }
+    of_operator(h, spins).or_else(|| of_noise(n, spins))
 }

@@ -1,155 +1,167 @@
 -- Conjugation and conversion keep the letters of a product, and the powers of i add up place by place.
 -- Assumes nothing.
-use mathlib.Core.Path.{◌≡◌, refl, sym, ap, ap₂, ◌∙◌}
-use mathlib.Core.Bool.{true}
-use Prim.Native.Nat.{ℕ, suc, ◌+◌, ◌%◌, ◌≤◌, ◌<◌}
-use native.Mathlib.Omega.{arith}
+use Rattle.std.proofs.Common.{◌≡◌, true, ℕ, suc, ◌+◌, ◌%◌, ◌≤◌, ◌<◌, Result, Ok, Err, refl, sym, ap, ap₂, ◌∙◌, arith}
+use Rattle.std.specs.Result.{IsOk}
 use borrow.Author.Tests.{le-ltb}
-use Rattle.refusal.specs.Refusals.{Said, gives, done}
+use Rattle.refusal.specs.Refusals.{Said, gives, done, said_by}
 use Rattle.refusal.specs.declared.Refusal.{Refusal}
 use Rattle.letters.specs.Sums.{total}
 use Rattle.letters.specs.Matrices.{letters_of}
-use Rattle.letters.specs.Single.{letter_of, power_of}
+use Rattle.letters.specs.Single.{letter_of, power_of, conjugated, converted}
 use Rattle.letters.specs.Answers.{other, decoded, said_letter, conjugate_letter, convert_letter, highest_letter}
 use Rattle.letters.specs.declared.Kind.{Kind}
-use Rattle.letters.specs.declared.LetterAnswer.{LetterAnswer}
+use Rattle.letters.specs.declared.Scaled.{Scaled}
 use Rattle.letters.proofs.TableLaws.{closed, converts}
 use Rattle.letters.proofs.Codes.{conjugated_plain, converted_plain}
 use Rattle.items.specs.Lists.{at}
 use Rattle.items.specs.Record.{valid, letter_at, reach, record_of}
-use Rattle.phases.specs.Answers.{conjugate_answer, convert_answer}
-use Rattle.phases.specs.Changes.{changed}
 use Rattle.items.specs.declared.Items.{Items}
-use Rattle.phases.specs.declared.Change.{Change}
-use Rattle.phases.specs.declared.Change.TheVariants.{Conjugate, Convert}
 use Rattle.items.proofs.RecordLaws.{valid-at, letter_code, letter_here, letter-beyond}
 use Rattle.items.proofs.Canonical.{record_ext, canonical}
 use Rattle.items.proofs.Cursor.{Cursor, cursor_none, cursor_gap, cursor_end, cursor_pass, total_site, total_any}
+use Rattle.phases.specs.Answers.{conjugate_answer, convert_answer}
 
 -- ---- one letter
 
--- a change keeps the letter
-changed-letter : (change : Change) (l : ℕ) → l < 4 → letter_of (changed change l) ≡ l
-changed-letter (Conjugate kind) l h = (closed kind).conjugated-letter l h
-changed-letter (Convert kind) l h = (converts kind (other kind)).converted-letter l h
+-- a change of letters that keeps each letter, gives one of sixteen codes, and gives the identity no power
+pub record Keeping (change : ℕ → ℕ) : Type 0 where
+  pub letter : (l : ℕ) → l < 4 → letter_of (change l) ≡ l
+  pub code : (l : ℕ) → l < 4 → change l < 16
+  pub none : power_of (change 0) ≡ 0
 
--- there are sixteen codes
-changed_lt : (change : Change) (l : ℕ) → l < 4 → changed change l < 16
-changed_lt (Conjugate kind) l h = (closed kind).conjugated_lt l h
-changed_lt (Convert kind) l h = (converts kind (other kind)).converted_lt l h
+pub conjugate_keeps : (kind : Kind) → Keeping (conjugated (letters_of kind))
+conjugate_keeps kind =
+    record {
+      letter = (closed kind).conjugated-letter;
+      code = (closed kind).conjugated_lt;
+      none = sym (conjugated_plain kind 0 (omega arith) (λ e. omega arith)).1;
+    }
 
--- the identity gives no power
-changed_none : (change : Change) → power_of (changed change 0) ≡ 0
-changed_none (Conjugate kind) = sym (conjugated_plain kind 0 (omega arith) (λ e. omega arith)).1
-changed_none (Convert kind) = sym (converted_plain kind 0 (omega arith) (λ e. omega arith)).1
+pub convert_keeps : (kind : Kind) → Keeping (converted (letters_of kind) (letters_of (other kind)))
+convert_keeps kind =
+    record {
+      letter = (converts kind (other kind)).converted-letter;
+      code = (converts kind (other kind)).converted_lt;
+      none = sym (converted_plain kind 0 (omega arith) (λ e. omega arith)).1;
+    }
 
 -- a letter's power is below 4
-power_lt : (e : ℕ) → e < 16 → power_of e < 4
-power_lt e h = omega arith
+pub power_lt : {change : ℕ → ℕ} → Keeping change → (l : ℕ) → l < 4 → power_of (change l) < 4
+power_lt k l h = omega (arith, k.code l h)
 
-changed_power : (change : Change) (l : ℕ) → l < 4 → power_of (changed change l) < 4
-changed_power change l h = power_lt (changed change l) (changed_lt change l h)
+-- ---- the answer on one letter
 
--- the letters' own answer says the change
-pub conjugate_says : {change : Change} {kind : Kind} {l : ℕ} {a r : LetterAnswer} → l < 4 → change ≡ Conjugate kind → said_letter r ≡ conjugate_letter (letters_of kind) l → a ≡ r
-    → said_letter a ≡ decoded (changed change l)
-unfolding conjugate_letter
-conjugate_says {l = l} h e s q =
-    ap said_letter q ∙ s ∙ rw (le-ltb highest_letter l (omega arith)) (ap (λ c. decoded (changed c l)) (sym e))
+-- a result that gives a value is one, and its value reads so
+said_ok : {V A : Type 0} (show : V → A) (x : Result V Refusal) (a : A) → said_by show x ≡ gives a → IsOk x
+said_ok show (Ok y) a e = refl
+said_ok show (Err why) a e = cc
 
-pub convert_says : {change : Change} {kind : Kind} {l : ℕ} {a r : LetterAnswer} → l < 4 → change ≡ Convert kind → said_letter r ≡ convert_letter (letters_of kind) (letters_of (other kind)) l → a ≡ r
-    → said_letter a ≡ decoded (changed change l)
-unfolding convert_letter
-convert_says {l = l} h e s q =
-    ap said_letter q ∙ s ∙ rw (le-ltb highest_letter l (omega arith)) (ap (λ c. decoded (changed c l)) (sym e))
+said_value : {V A : Type 0} (show : V → A) (x : Result V Refusal) (y : V) (a : A) → x ≡ Ok y → said_by show x ≡ gives a → show y ≡ a
+said_value show x y a q e = let f : gives (show y) ≡ gives a = sym (ap (said_by show) q) ∙ e in cc
 
--- the power in an answer; a refusal says no letter
-pub said_power : {a : LetterAnswer} {l k : ℕ} (e : ℕ) → said_letter a ≡ decoded e → a ≡ LetterAnswer.Letter l k → k ≡ power_of e
-said_power {a} {l} {k} e s q =
-    let t : ◌≡◌ {A = Said (ℕ × ℕ)} (gives (l, k)) (decoded e) = sym (ap said_letter q) ∙ s in
-    let u : ◌≡◌ {A = ℕ × ℕ} (l, k) (letter_of e, power_of e) = cc in
-    ap (λ x. x.1) u
+-- a letter below 4 is not refused, and its power is that of the change
+module _ (kind : Kind) (l : ℕ) (h : l < 4) (x : Result Scaled Refusal) where
+  conjugate_said : said_letter x ≡ conjugate_letter (letters_of kind) l → said_letter x ≡ decoded (conjugated (letters_of kind) l)
+  unfolding conjugate_letter
+  conjugate_said e = e ∙ rw (le-ltb highest_letter l (omega arith)) refl
 
-pub said_no_refusal : {a : LetterAnswer} {why : Refusal} (e : ℕ) → said_letter a ≡ decoded e → a ≡ LetterAnswer.Refused why → 0 ≡ power_of e
-said_no_refusal {a} {why} e s q = let t = sym (ap said_letter q) ∙ s in let z : ◌≡◌ {A = ℕ} 0 1 = cc in absurd (omega arith)
+  convert_said : said_letter x ≡ convert_letter (letters_of kind) (letters_of (other kind)) l
+      → said_letter x ≡ decoded (converted (letters_of kind) (letters_of (other kind)) l)
+  unfolding convert_letter
+  convert_said e = e ∙ rw (le-ltb highest_letter l (omega arith)) refl
+
+  pub conjugate_ok : said_letter x ≡ conjugate_letter (letters_of kind) l → IsOk x
+  conjugate_ok e = said_ok (λ y. (y.letter, y.power)) x _ (conjugate_said e)
+
+  pub convert_ok : said_letter x ≡ convert_letter (letters_of kind) (letters_of (other kind)) l → IsOk x
+  convert_ok e = said_ok (λ y. (y.letter, y.power)) x _ (convert_said e)
+
+  pub conjugate_says : (y : Scaled) (r : ℕ) → said_letter x ≡ conjugate_letter (letters_of kind) l → x ≡ Ok y → r ≡ y.power
+      → r ≡ power_of (conjugated (letters_of kind) l)
+  conjugate_says y r e q p = p ∙ ap (λ (u : ℕ × ℕ). u.1) (said_value (λ z. (z.letter, z.power)) x y _ q (conjugate_said e))
+
+  pub convert_says : (y : Scaled) (r : ℕ) → said_letter x ≡ convert_letter (letters_of kind) (letters_of (other kind)) l → x ≡ Ok y → r ≡ y.power
+      → r ≡ power_of (converted (letters_of kind) (letters_of (other kind)) l)
+  convert_says y r e q p = p ∙ ap (λ (u : ℕ × ℕ). u.1) (said_value (λ z. (z.letter, z.power)) x y _ q (convert_said e))
+
+pub ruleset unwrapped = (conjugate_ok, convert_ok)
+
+pub ruleset powers_told = (conjugate_says, convert_says)
 
 -- ---- all letters
 
--- the power that a site gives
-abbrev pub power_at : Change → Items → ℕ → ℕ
-power_at change p s = power_of (changed change (letter_at p s))
-
--- a free site gives none
-free_none : (change : Change) (p : Items) (s : ℕ) → letter_at p s ≡ 0 → power_at change p s ≡ 0
-free_none change p s e = ap (λ l. power_of (changed change l)) e ∙ changed_none change
+-- the letter at a place
+pub letter_lt : (p : Items) → valid p ≡ true → (i : ℕ) → i < p.count → at p.letters i < 4
+letter_lt p v i l = omega (arith, (valid-at p v i l).letter_most)
 
 -- the power of the first i places, which are those below some site
-pub record Powers (change : Change) (p : Items) (i power : ℕ) : Type 0 where
+pub record Powers (power : ℕ → ℕ) (p : Items) (i sum : ℕ) : Type 0 where
   pub bound : ℕ
   pub cursor : Cursor p i bound
-  pub sum : power ≡ total (power_at change p) bound % 4
+  pub added : sum ≡ total (λ s. power (letter_at p s)) bound % 4
 
-pub powers_none : (change : Change) (p : Items) → Powers change p 0 0
+pub powers_none : (power : ℕ → ℕ) (p : Items) → Powers power p 0 0
 unfolding total
-powers_none change p = record { bound = 0; cursor = cursor_none p; sum = refl }
+powers_none power p = record { bound = 0; cursor = cursor_none p; added = refl }
 
 -- the sum stays below 4
-powers_lt : {change : Change} {p : Items} {i power : ℕ} → Powers change p i power → power < 4
-powers_lt {change} {p} h = go (total (power_at change p) h.bound) h.sum
-  where
-    go : {power : ℕ} (t : ℕ) → power ≡ t % 4 → power < 4
-    go t e = omega arith
+pub powers_lt : {power : ℕ → ℕ} {p : Items} {i sum : ℕ} → Powers power p i sum → sum < 4
+powers_lt h = omega (arith, h.added)
 
--- one place more
-pub powers_more : {change : Change} {p : Items} {i power k : ℕ} → valid p ≡ true → Powers change p i power → i < p.count → k ≡ power_of (changed change (at p.letters i))
-    → Powers change p (i + 1) ((power + k) % 4)
-powers_more {change} {p} {i} {power} {k} v h l e =
-    let s = at p.sites i in
-    let here : k ≡ power_at change p s = e ∙ ap (λ x. power_of (changed change x)) (sym (letter_here p v i l)) in
-    let site : total (power_at change p) (suc s) ≡ total (power_at change p) h.bound + power_at change p s =
-    total_site (power_at change p) h.bound s (h.cursor.after i (omega arith) l)
-    (λ t a b. free_none change p t (cursor_gap p v h.cursor t a (λ m. b))) in
-    record { bound = suc s; cursor = cursor_pass p v h.cursor l; sum = step power k _ _ _ h.sum here site }
-  where
-    step : (power k t u w : ℕ) → power ≡ t % 4 → k ≡ u → w ≡ t + u → (power + k) % 4 ≡ w % 4
-    step power k t u w a b c = omega arith
+module _ (power : ℕ → ℕ) (p : Items) (v : valid p ≡ true) (none : power 0 ≡ 0) where
+  -- a free site gives none
+  free_none : (s : ℕ) → letter_at p s ≡ 0 → power (letter_at p s) ≡ 0
+  free_none s e = ap power e ∙ none
 
--- a sum of two powers stays small
-pub powers_fit : {change : Change} {p : Items} {i power k : ℕ} → valid p ≡ true → Powers change p i power → i < p.count → k ≡ power_of (changed change (at p.letters i)) → power + k < 8
-powers_fit {change} {p} {i} {power} {k} v h l e =
-    let a : power < 4 = powers_lt h in
-    let b : power_of (changed change (at p.letters i)) < 4 = changed_power change _ (omega (arith, (valid-at p v i l).letter_most)) in
-    sum power k _ a b e
-  where
-    sum : (x y z : ℕ) → x < 4 → z < 4 → y ≡ z → x + y < 8
-    sum x y z a b e = omega arith
+  -- one place more
+  pub powers_more : {i sum k : ℕ} → Powers power p i sum → i < p.count → k ≡ power (at p.letters i) → Powers power p (i + 1) ((sum + k) % 4)
+  powers_more {i} {sum} {k} h l e =
+      let s = at p.sites i in
+      let here : k ≡ power (letter_at p s) = e ∙ ap power (sym (letter_here p v i l)) in
+      let site : total (λ t. power (letter_at p t)) (suc s) ≡ total (λ t. power (letter_at p t)) h.bound + power (letter_at p s) =
+      total_site (λ t. power (letter_at p t)) h.bound s (h.cursor.after i (omega arith) l)
+      (λ t a b. free_none t (cursor_gap p v h.cursor t a (λ m. b))) in
+      record { bound = suc s; cursor = cursor_pass p v h.cursor l; added = step sum k _ _ _ h.added here site }
+    where
+      step : (sum k t u w : ℕ) → sum ≡ t % 4 → k ≡ u → w ≡ t + u → (sum + k) % 4 ≡ w % 4
+      step sum k t u w a b c = omega arith
 
--- all places
-pub powers_done : {change : Change} {p : Items} {i power : ℕ} → valid p ≡ true → Powers change p i power → p.count ≤ i → power ≡ total (power_at change p) (reach p) % 4
-powers_done {change} {p} {i} {power} v h l =
-    h.sum
-    ∙ ap (λ t. t % 4)
-    (total_any (power_at change p) h.bound (reach p)
-    (λ s a. free_none change p s (cursor_end p v h.cursor l s a))
-    (λ s a. free_none change p s (letter-beyond p v s a)))
+  -- all places
+  pub powers_done : {i sum : ℕ} → Powers power p i sum → p.count ≤ i → sum ≡ total (λ s. power (letter_at p s)) (reach p) % 4
+  powers_done {i} {sum} h l =
+      h.added
+      ∙ ap (λ t. t % 4)
+      (total_any (λ s. power (letter_at p s)) h.bound (reach p)
+      (λ s a. free_none s (cursor_end p v h.cursor l s a))
+      (λ s a. free_none s (letter-beyond p v s a)))
 
 -- the record of the changed letters is the product itself
-pub changed_record : (change : Change) (p : Items) → valid p ≡ true → record_of (λ s. letter_of (changed change (letter_at p s))) (reach p) ≡ p
-changed_record change p v =
-    record_ext (λ s. letter_of (changed change (letter_at p s))) (letter_at p) (reach p)
-    (λ s h. changed-letter change (letter_at p s) (omega (arith, letter_code p v s)))
+pub changed_record : (change : ℕ → ℕ) → Keeping change → (p : Items) → valid p ≡ true → record_of (λ s. letter_of (change (letter_at p s))) (reach p) ≡ p
+changed_record change k p v =
+    record_ext (λ s. letter_of (change (letter_at p s))) (letter_at p) (reach p)
+    (λ s h. k.letter (letter_at p s) (omega (arith, letter_code p v s)))
     ∙ canonical p v
-
--- the answer of a change that is not refused
-pub changed-answer : (change : Change) (p : Items) (power : ℕ) → valid p ≡ true → power ≡ total (power_at change p) (reach p) % 4
-    → ◌≡◌ {A = Said Unit × (ℕ × Items)} (done, (power, p)) (done, (total (power_at change p) (reach p) % 4, record_of (λ s. letter_of (changed change (letter_at p s))) (reach p)))
-changed-answer change p power v e = ap₂ (λ k q. (done, (k, q))) e (sym (changed_record change p v))
 
 -- so the record of an answer on a valid product is the product
 pub conjugate_record : (kind : Kind) (p : Items) → valid p ≡ true → (conjugate_answer (letters_of kind) p).1.1 ≡ p
 unfolding conjugate_answer
-conjugate_record kind p v = rw v (changed_record (Conjugate kind) p v)
+conjugate_record kind p v = rw v (changed_record (conjugated (letters_of kind)) (conjugate_keeps kind) p v)
 
 pub convert_record : (kind : Kind) (p : Items) → valid p ≡ true → (convert_answer (letters_of kind) (letters_of (other kind)) p).1.1 ≡ p
 unfolding convert_answer
-convert_record kind p v = rw v (changed_record (Convert kind) p v)
+convert_record kind p v = rw v (changed_record (converted (letters_of kind) (letters_of (other kind))) (convert_keeps kind) p v)
+
+-- ---- the answers
+
+pub conjugate_done : (kind : Kind) (p : Items) (power : ℕ) → valid p ≡ true
+    → power ≡ total (λ s. power_of (conjugated (letters_of kind) (letter_at p s))) (reach p) % 4 → (done, (power, p)) ≡ conjugate_answer (letters_of kind) p
+unfolding conjugate_answer
+conjugate_done kind p power v e =
+    rw v (ap₂ (λ k q. (done, (k, q))) e (sym (changed_record (conjugated (letters_of kind)) (conjugate_keeps kind) p v)))
+
+pub convert_done : (kind : Kind) (p : Items) (power : ℕ) → valid p ≡ true
+    → power ≡ total (λ s. power_of (converted (letters_of kind) (letters_of (other kind)) (letter_at p s))) (reach p) % 4
+    → (done, (power, p)) ≡ convert_answer (letters_of kind) (letters_of (other kind)) p
+unfolding convert_answer
+convert_done kind p power v e =
+    rw v (ap₂ (λ k q. (done, (k, q))) e (sym (changed_record (converted (letters_of kind) (letters_of (other kind))) (convert_keeps kind) p v)))

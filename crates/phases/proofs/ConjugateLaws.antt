@@ -16,9 +16,8 @@ use Rattle.letters.proofs.FactorLaws.{conjugate_power, conjugated_power}
 use Rattle.items.specs.Record.{valid, letter_at, reach}
 use Rattle.phases.specs.Answers.{conjugate_answer}
 use Rattle.items.specs.declared.Items.{Items}
-use Rattle.phases.specs.declared.Change.TheVariants.{Conjugate}
 use Rattle.items.proofs.RecordLaws.{letter_code}
-use Rattle.phases.proofs.ChangeLaws.{changed_record}
+use Rattle.phases.proofs.ChangeLaws.{conjugate_keeps, changed_record}
 
 -- ---- conjugates
 
@@ -45,7 +44,7 @@ conjugate-whole kind p v =
     (total_cong_below (reach p) (λ s. power_of (conjugated (letters_of kind) (letter_at p s))) (λ s. cond (eqb (letter_at p s) 2) (conjugate_power kind) 0)
     (λ s h. conjugated_power kind (letter_at p s) (omega (arith, letter_code p v s)))
     ∙ total_test (conjugate_power kind) (λ s. eqb (letter_at p s) 2) (reach p))
-    (changed_record (Conjugate kind) p v))
+    (changed_record (conjugated (letters_of kind)) (conjugate_keeps kind) p v))
 
 -- "its sign is -1 for an odd number of iY": i to the power 2 where the number is odd, 0 where it is even
 pub decoherence-conjugate : (p : Items) → valid p ≡ true → conjugate_answer decoherence p ≡ (done, (2 * (count_of_Y p % 2), p))

@@ -1,1 +1,1 @@
-pub mod SignedLaws
+pub mod LineLaws

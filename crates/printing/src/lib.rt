@@ -1,60 +1,92 @@
 // The entries of an exact row, printed: what `worked` and `example` write.
 #![tactic(auto)]
 
-ghost use Rattle.std.specs.Prelude.{◌≡◌, min, nat_abs};
+ghost use Rattle.std.specs.Prelude.{◌≡◌, take, length, min, replicate, pos, Some};
 ghost use Rattle.rows.specs.Buffers.{most_entries};
+ghost use Rattle.printing.specs.Lines.{entry_line, row_lines};
 
-use sorting::least;
+use std::fmt;
+use std::fmt::{Display, Formatter};
 
 // The most entries that a row has.
 pub const MOST_ENTRIES: usize = 320;
 
-// The size of a number: of the smallest one too, whose negative 64 bits don't hold.
-fn size(x: i64) -> u64
-    ensures { result ≡ nat_abs x }
-{
-    if x < 0 {
-        let less = -(x + 1);
-        return less as u64 + 1;
-    }
-    x as u64
+// What a row call is lent: places for columns, real halves and imaginary halves.
+#[derive(Clone, Copy)]
+pub struct Places {
+    pub columns: [u64; MOST_ENTRIES],
+    pub re: [i64; MOST_ENTRIES],
+    pub im: [i64; MOST_ENTRIES],
 }
 
-// A number with its sign.
-fn print_signed(x: i64) {
-    if x < 0 {
-        io::write_all(1, b"-");
+impl Places {
+    // Zeros in every place.
+    pub fn new() -> Places
+        ensures { (result.columns ≡ replicate most_entries 0) × (result.re ≡ replicate most_entries (pos 0)) × (result.im ≡ replicate most_entries (pos 0)) }
+    {
+        Places {
+            columns: [0; MOST_ENTRIES],
+            re: [0; MOST_ENTRIES],
+            im: [0; MOST_ENTRIES],
+        }
     }
-    io::print_decimal(1, size(x));
+
+    // The first n entries, of a row. Past the last place there is none.
+    pub fn entries(&self, row: u64, n: usize) -> Entries<'_>
+        ensures count { length result.columns.now ≡ min n most_entries }
+        ensures entries { (result.row ≡ row) × (result.columns.now ≡ take n self.now.columns) × (result.re.now ≡ take n self.now.re) × (result.im.now ≡ take n self.now.im) }
+    {
+        let end = n.min(MOST_ENTRIES);
+        Entries {
+            row,
+            columns: &self.columns[..end],
+            re: &self.re[..end],
+            im: &self.im[..end],
+        }
+    }
+}
+
+// An entry of a row: its column, and how many halves its parts have.
+#[derive(Clone, Copy, PartialEq, Eq, Debug)]
+pub struct Entry {
+    pub row: u64,
+    pub column: u64,
+    pub re: i64,
+    pub im: i64,
 }
 
 // Row, column, real halves, imaginary halves.
-fn print_entry(row: u64, column: u64, re: i64, im: i64) {
-    io::print_decimal(1, row);
-    io::write_all(1, b" ");
-    io::print_decimal(1, column);
-    io::write_all(1, b" ");
-    print_signed(re);
-    io::write_all(1, b" ");
-    print_signed(im);
-    io::write_all(1, b"\n");
+impl Display for Entry {
+    ghost output = { λ e. Some (entry_line e) };
+
+    fn fmt<W: fmt::Write>(&self, f: &mut Formatter<W>) -> fmt::Result {
+        write!(f, "{} {} {} {}", self.row, self.column, self.re, self.im)
+    }
 }
 
-// Prints the first n entries of a row, a line each; gives how many there were. Past the last place there is none.
-pub fn print_entries(
-    row: u64,
-    n: usize,
-    columns: &[u64; MOST_ENTRIES],
-    re: &[i64; MOST_ENTRIES],
-    im: &[i64; MOST_ENTRIES],
-) -> usize
-    ensures { result ≡ min n most_entries }
-{
-    let end = least(n, MOST_ENTRIES);
-    let mut i = 0;
-    while i < end {
-        print_entry(row, columns[i], re[i], im[i]);
-        i += 1;
+// Entries of one row, in the order of their places.
+#[derive(Clone, Copy)]
+pub struct Entries<'a> {
+    pub row: u64,
+    pub columns: &'a [u64],
+    pub re: &'a [i64],
+    pub im: &'a [i64],
+}
+
+// A line for each entry.
+impl Display for Entries<'_> {
+    ghost output = { λ e. Some (row_lines e.row e.columns.now e.re.now e.im.now) };
+
+    fn fmt<W: fmt::Write>(&self, f: &mut Formatter<W>) -> fmt::Result {
+        for ((column, re), im) in self.columns.iter().zip(self.re).zip(self.im) {
+            let entry = Entry {
+                row: self.row,
+                column: *column,
+                re: *re,
+                im: *im,
+            };
+            writeln!(f, "{entry}")?;
+        }
+        Ok(())
     }
-    end
 }

@@ -1,30 +1,21 @@
--- What the answers of the two kinds of product say.
-use Rattle.std.specs.Prelude.{ℕ}
-use Rattle.refusal.specs.Refusals.{Said, gives, refuses, said, number, site_of}
+-- What the answers on products say, for any kind of letters.
+use Rattle.std.specs.Prelude.{ℕ, Result}
+use Rattle.refusal.specs.Refusals.{Said, gives, refuses, said_by, told_by}
+use Rattle.refusal.specs.declared.Refusal.{Refusal}
 use Rattle.complex.specs.Complex.{unit_of_I}
 use Rattle.complex.specs.declared.Complex.{Complex}
 use Rattle.items.specs.declared.Items.{Items}
-use Rattle.products.specs.declared.pauli_product.PauliAnswer.{PauliAnswer}
-use Rattle.products.specs.declared.pauli_product.PauliWithPower.{PauliWithPower}
-use Rattle.products.specs.declared.decoherence_product.DecoherenceAnswer.{DecoherenceAnswer}
-use Rattle.products.specs.declared.decoherence_product.DecoherenceWithPower.{DecoherenceWithPower}
-use Rattle.products.specs.declared.decoherence_product.ProductRow.{ProductRow}
+use Rattle.products.specs.declared.Product.{Product}
+use Rattle.products.specs.declared.WithPower.{WithPower}
+use Rattle.products.specs.declared.ProductEntry.{ProductEntry}
 
--- ---- Pauli products
+-- with the record that the caller then has: the answer's, or, refused, the one before
+abbrev pub told_product : {K : Type 0} → Items → Result (Product K) Refusal → Said Unit × Items
+told_product before r = told_by before (λ p. p.items) r
 
-abbrev pub told_pauli : PauliAnswer → Said Unit × Items
-told_pauli r = (said r.outcome, r.product.items)
-
-abbrev pub told_pauli_power : PauliWithPower → Said Unit × (ℕ × Items)
-told_pauli_power r = (said r.outcome, (r.power, r.product.items))
-
--- ---- decoherence products
-
-abbrev pub told_decoherence : DecoherenceAnswer → Said Unit × Items
-told_decoherence r = (said r.outcome, r.product.items)
-
-abbrev pub told_decoherence_power : DecoherenceWithPower → Said Unit × (ℕ × Items)
-told_decoherence_power r = (said r.outcome, (r.power, r.product.items))
+-- beside a refusal the power of i is 0
+abbrev pub told_power : {K : Type 0} → Items → Result (WithPower K) Refusal → Said Unit × (ℕ × Items)
+told_power before r = told_by (0, before) (λ x. (x.power, x.product.items)) r
 
 -- ---- the row of a decoherence product
 
@@ -33,6 +24,5 @@ abbrev pub as_complex : Said (ℕ × ℕ) → Said (ℕ × Complex)
 as_complex (gives x) = gives (x.0, unit_of_I x.1)
 as_complex (refuses k s) = refuses k s
 
-abbrev pub said_product_row : ProductRow → Said (ℕ × Complex)
-said_product_row (ProductRow.Entry c z) = gives (c, z)
-said_product_row (ProductRow.Refused why) = refuses (number why) (site_of why)
+abbrev pub said_product_row : Result ProductEntry Refusal → Said (ℕ × Complex)
+said_product_row r = said_by (λ e. (e.column, e.factor)) r

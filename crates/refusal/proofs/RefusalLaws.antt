@@ -1,15 +1,13 @@
--- An answer is known by what it says: the readings of refusals, outcomes and sites are one to one.
+-- An answer is known by what it says: the readings of refusals, of answers and of options are one to one.
 -- Assumes nothing.
 use Prim.Native.Nat.{ℕ}
-use native.Mathlib.Omega.{arith}
 use mathlib.Core.List.{List, [], ◌∷◌}
 use mathlib.Core.Path.{◌≡◌, refl, sym, ap, ap₂, ◌∙◌}
 use lib.ListN.{get_or}
-use Rattle.refusal.specs.Refusals.{number, site_of, carried, Said, gives, refuses, said}
+use Rattle.std.specs.Prelude.{Some, None, Result, Ok, Err}
+use Rattle.refusal.specs.Refusals.{number, site_of, listed, Said, gives, refuses, said, said_by, told_by}
 use Rattle.refusal.specs.declared.Refusal.{Refusal}
 use Rattle.refusal.specs.declared.Refusal.TheVariants.{Malformed, SiteTooHigh, UnknownLetter, SiteOccupied, EmptySide, CoefficientOutOfRange, SetFull, TooManySpins, SiteOutsideSpins, RowOutOfRange, BufferTooShort, NotWhole}
-use Rattle.refusal.specs.declared.Carried.{Carried}
-use Rattle.refusal.specs.declared.Carried.TheVariants.{Site, Nothing}
 use Rattle.refusal.specs.declared.Outcome.{Outcome}
 use Rattle.refusal.specs.declared.Outcome.TheVariants.{Done, Refused}
 
@@ -57,8 +55,30 @@ outcome_known = reading_known said (λ x. Done) Refused back
     back Done = refl
     back (Refused why) = ap Refused (refusal_is why)
 
-pub carried_known : (c c' : Carried) → carried c ≡ carried c' → c ≡ c'
-carried_known (Site s) (Site t) e = cc
-carried_known Nothing Nothing e = refl
-carried_known (Site s) Nothing e = let z : ◌≡◌ {A = ℕ} 0 1 = cc in absurd (omega arith)
-carried_known Nothing (Site t) e = let z : ◌≡◌ {A = ℕ} 0 1 = cc in absurd (omega arith)
+-- a reading is one to one: what it says of a value fixes the value
+abbrev pub OneToOne : {V A : Type 0} → (V → A) → Type 0
+OneToOne {V} show = (v w : V) → show v ≡ show w → v ≡ w
+
+-- any option, and so the site of a refusal, by its list
+pub listed_known : {A : Type 0} → OneToOne (listed {A = A})
+listed_known (Some x) (Some y) e = cc
+listed_known None None e = refl
+listed_known (Some x) None e = cc
+listed_known None (Some y) e = cc
+
+-- a result, by its value or its refusal
+pub said_by_known : {V A : Type 0} (show : V → A) → OneToOne show → OneToOne (said_by show)
+said_by_known show known (Ok v) (Ok w) e = let h : show v ≡ show w = cc in ap Ok (known v w h)
+said_by_known show known (Err why) (Err why') e = ap Err (refusal_known why why' (cc) (cc))
+said_by_known show known (Ok v) (Err why) e = cc
+said_by_known show known (Err why) (Ok v) e = cc
+
+-- a result on a record, by that record
+pub told_by_known : {V A : Type 0} (before : A) (show : V → A) → OneToOne show → OneToOne (told_by before show)
+told_by_known before show known r q e = go r q (ap (λ t. t.0) e) (ap (λ t. t.1) e)
+  where
+    go : (r q : Result _ Refusal) → (told_by before show r).0 ≡ (told_by before show q).0 → (told_by before show r).1 ≡ (told_by before show q).1 → r ≡ q
+    go (Ok v) (Ok w) s e = ap Ok (known v w e)
+    go (Err why) (Err why') s e = ap Err (refusal_known why why' (cc) (cc))
+    go (Ok v) (Err why) s e = cc
+    go (Err why) (Ok v) s e = cc

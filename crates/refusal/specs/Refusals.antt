@@ -1,10 +1,8 @@
 -- The numbers of the refusals, and what an answer says: a value, or a refusal by its number.
 -- Document 01, `Numbers of the no`.
-use Rattle.std.specs.Prelude.{ℕ, List, [], ◌∷◌}
+use Rattle.std.specs.Prelude.{ℕ, List, [], ◌∷◌, Option, Some, None, Result, Ok, Err}
 use Rattle.refusal.specs.declared.Refusal.{Refusal}
 use Rattle.refusal.specs.declared.Refusal.TheVariants.{Malformed, SiteTooHigh, UnknownLetter, SiteOccupied, EmptySide, CoefficientOutOfRange, SetFull, TooManySpins, SiteOutsideSpins, RowOutOfRange, BufferTooShort, NotWhole}
-use Rattle.refusal.specs.declared.Carried.{Carried}
-use Rattle.refusal.specs.declared.Carried.TheVariants.{Site, Nothing}
 use Rattle.refusal.specs.declared.Outcome.{Outcome}
 use Rattle.refusal.specs.declared.Outcome.TheVariants.{Done, Refused}
 
@@ -38,9 +36,10 @@ site_of RowOutOfRange = []
 site_of BufferTooShort = []
 site_of NotWhole = []
 
-abbrev pub carried : Carried → List ℕ
-carried (Site s) = s ∷ []
-carried Nothing = []
+-- what an option holds, as a list of one; none is the empty list
+abbrev pub listed : {A : Type 0} → Option A → List A
+listed (Some x) = x ∷ []
+listed None = []
 
 -- what an entry says: a value, or a refusal by its number and the site that it carries
 pub data Said (A : Type 0) : Type 0 where
@@ -54,3 +53,13 @@ done = gives tt
 abbrev pub said : Outcome → Said Unit
 said Done = done
 said (Refused why) = refuses (number why) (site_of why)
+
+-- what a result says: its value, read by `show`, or its refusal by number and site
+abbrev pub said_by : {V A : Type 0} → (V → A) → Result V Refusal → Said A
+said_by show (Ok v) = gives (show v)
+said_by show (Err why) = refuses (number why) (site_of why)
+
+-- what a result says of a record, with the record that its caller then has: the one in the value, read by `show`, or, refused, the one as before
+abbrev pub told_by : {V A : Type 0} → A → (V → A) → Result V Refusal → Said Unit × A
+told_by before show (Ok v) = (done, show v)
+told_by before show (Err why) = (refuses (number why) (site_of why), before)

@@ -2,10 +2,13 @@
 #![tactic(auto)]
 
 ghost use Rattle.std.specs.Prelude.{◌≡◌};
-ghost use Rattle.refusal.specs.Refusals.{number, site_of, carried};
+ghost use Rattle.refusal.specs.Refusals.{number, site_of, listed};
+
+use std::fmt;
+use std::fmt::{Display, Formatter};
 
 // Why a call is refused. The numbers are `number`'s, in the order of the table.
-#[derive(Clone, Copy)]
+#[derive(Clone, Copy, PartialEq, Eq, Debug)]
 pub enum Refusal {
     // 0: a record handed in that the entries never make.
     Malformed,
@@ -31,13 +34,6 @@ pub enum Refusal {
     BufferTooShort,
     // 11: a coefficient that is not whole, in a call that asks for whole ones.
     NotWhole,
-}
-
-// The site that a refusal carries.
-#[derive(Clone, Copy)]
-pub enum Carried {
-    Site(usize),
-    Nothing,
 }
 
 // What an entry answers that hands a record back beside it.
@@ -67,22 +63,26 @@ impl Refusal {
         }
     }
 
-    pub fn site(self) -> Carried
-        ensures { carried result ≡ site_of self }
+    // The site that 1, 3 and 8 carry.
+    pub fn site(self) -> Option<usize>
+        ensures { listed result ≡ site_of self }
     {
         match self {
-            Refusal::Malformed => Carried::Nothing,
-            Refusal::SiteTooHigh(s) => Carried::Site(s),
-            Refusal::UnknownLetter => Carried::Nothing,
-            Refusal::SiteOccupied(s) => Carried::Site(s),
-            Refusal::EmptySide => Carried::Nothing,
-            Refusal::CoefficientOutOfRange => Carried::Nothing,
-            Refusal::SetFull => Carried::Nothing,
-            Refusal::TooManySpins => Carried::Nothing,
-            Refusal::SiteOutsideSpins(s) => Carried::Site(s),
-            Refusal::RowOutOfRange => Carried::Nothing,
-            Refusal::BufferTooShort => Carried::Nothing,
-            Refusal::NotWhole => Carried::Nothing,
+            Refusal::SiteTooHigh(s) | Refusal::SiteOccupied(s) | Refusal::SiteOutsideSpins(s) => {
+                Some(s)
+            }
+            _ => None,
+        }
+    }
+}
+
+// The number, and the site where there is one.
+impl Display for Refusal {
+    fn fmt<W: fmt::Write>(&self, f: &mut Formatter<W>) -> fmt::Result {
+        write!(f, "{}", self.number())?;
+        match self.site() {
+            Some(s) => write!(f, " site {}", s),
+            None => Ok(()),
         }
     }
 }

@@ -1,61 +1,59 @@
 // Sets multiplied, conjugated, converted and scaled: a set, then a second one or a coefficient.
-use crate::records::value;
-use crate::report::{told, told_anew};
-use crate::set_calls::{decoherence_operator, hamiltonian_kept, pauli_operator};
-use crate::set_records::{hamiltonian, set};
-use observations::records::same_terms;
-use spins::{
-    DecoherenceOperator, DecoherenceOperatorAnswer, PauliHamiltonian, PauliOperator,
-    PauliOperatorAnswer, TermSet,
-};
+use crate::answers::{Made, Operator, Terms};
+use crate::numbers::Numbers;
+use crate::report::{handed_back, made};
+use crate::set_records::hamiltonian;
+use spins::{DecoherenceOperator, PauliHamiltonian, PauliOperator};
+use std::io;
 
-fn operator_told(s: TermSet, r: PauliOperatorAnswer) {
-    let outcome = r.outcome;
-    told(outcome, same_terms(true, s, r.operator.terms));
+fn multiply<S: Operator>(rt: &impl Print, numbers: &mut Numbers) -> io::Result<()> {
+    let left = S::of(numbers.set());
+    let right = S::of(numbers.set());
+    handed_back(rt, &left, left.multiply(&right))
 }
 
-// An operator made of other records: the empty one stands beside a refusal.
-fn operator_made(r: PauliOperatorAnswer) {
-    let outcome = r.outcome;
-    let none = PauliOperator::new();
-    told_anew(outcome, same_terms(true, none.terms, r.operator.terms));
+fn hermitian_conjugate<S: Terms>(rt: &impl Print, numbers: &mut Numbers) -> io::Result<()> {
+    let s = S::of(numbers.set());
+    handed_back(rt, &s, s.hermitian_conjugate())
 }
 
-fn decoherence_told(s: TermSet, r: DecoherenceOperatorAnswer) {
-    let outcome = r.outcome;
-    told(outcome, same_terms(true, s, r.operator.terms));
+fn from_hamiltonians(rt: &impl Print, numbers: &mut Numbers) -> io::Result<()> {
+    let left = hamiltonian(numbers.set());
+    let right = hamiltonian(numbers.set());
+    let r = PauliOperator::from_hamiltonians(left, right);
+    made(rt, &PauliOperator::new(), Made::new(r.outcome, r.operator))
 }
 
-fn hamiltonian_conjugate(h: PauliHamiltonian) {
-    let r = h.hermitian_conjugate();
-    let outcome = r.outcome;
-    told(outcome, hamiltonian_kept(h, r.set));
+fn from_hamiltonian(rt: &impl Print, numbers: &mut Numbers) -> io::Result<()> {
+    let r = PauliOperator::from_hamiltonian(hamiltonian(numbers.set()));
+    made(rt, &PauliOperator::new(), Made::new(r.outcome, r.operator))
 }
 
-fn from_pauli_operator(s: TermSet) {
-    let r = DecoherenceOperator::from_pauli_operator(pauli_operator(s));
-    let outcome = r.outcome;
-    let none = DecoherenceOperator::new();
-    told_anew(outcome, same_terms(true, none.terms, r.operator.terms));
+fn from_pauli_operator(rt: &impl Print, numbers: &mut Numbers) -> io::Result<()> {
+    let r = DecoherenceOperator::from_pauli_operator(PauliOperator::of(numbers.set()));
+    made(
+        rt,
+        &DecoherenceOperator::new(),
+        Made::new(r.outcome, r.operator),
+    )
 }
 
-pub(crate) fn call(a: [u64; 26]) {
-    let s = set(a, 1);
-    match a[0] {
-        30 => operator_told(s, pauli_operator(s).multiply(pauli_operator(set(a, 7)))),
-        31 => decoherence_told(
-            s,
-            decoherence_operator(s).multiply(decoherence_operator(set(a, 7))),
-        ),
-        32 => operator_made(PauliOperator::from_hamiltonians(
-            hamiltonian(s),
-            hamiltonian(set(a, 7)),
-        )),
-        33 => operator_told(s, pauli_operator(s).hermitian_conjugate()),
-        34 => decoherence_told(s, decoherence_operator(s).hermitian_conjugate()),
-        35 => hamiltonian_conjugate(hamiltonian(s)),
-        36 => operator_made(PauliOperator::from_hamiltonian(hamiltonian(s))),
-        37 => from_pauli_operator(s),
-        _ => operator_told(s, pauli_operator(s).scale(value(a[7]))),
+fn scale(rt: &impl Print, numbers: &mut Numbers) -> io::Result<()> {
+    let s = PauliOperator::of(numbers.set());
+    let r = s.scale(numbers.coefficient());
+    handed_back(rt, &s, Made::new(r.outcome, r.operator))
+}
+
+pub(crate) fn call(rt: &impl Print, entry: u64, numbers: &mut Numbers) -> io::Result<()> {
+    match entry {
+        30 => multiply::<PauliOperator>(rt, numbers),
+        31 => multiply::<DecoherenceOperator>(rt, numbers),
+        32 => from_hamiltonians(rt, numbers),
+        33 => hermitian_conjugate::<PauliOperator>(rt, numbers),
+        34 => hermitian_conjugate::<DecoherenceOperator>(rt, numbers),
+        35 => hermitian_conjugate::<PauliHamiltonian>(rt, numbers),
+        36 => from_hamiltonian(rt, numbers),
+        37 => from_pauli_operator(rt, numbers),
+        _ => scale(rt, numbers),
     }
 }

@@ -1,10 +1,11 @@
 // Runs the table of standard input: a case on each line, called and printed with its number. tests/refusals makes the table.
 #![tactic(auto)]
 
+mod answers;
 mod chain_calls;
 mod noise_calls;
+mod numbers;
 mod product_calls;
-mod records;
 mod report;
 mod row_calls;
 mod set_calls;
@@ -12,19 +13,12 @@ mod set_records;
 mod single_letters;
 mod table;
 
-use table::Next;
+use std::io;
+use std::io::{BufRead, BufReader};
 
-// A proved loop has to end, and nothing says that the input does; no run comes to the last turn.
-fn main() {
-    let mut line = table::new_line();
-    let mut turn: u64 = 0;
-    while turn < u64::MAX {
-        match table::next_byte() {
-            Next::Byte(byte) => {
-                line = table::read(line, byte);
-            }
-            Next::End => return,
-        }
-        turn += 1;
+fn main(rt: HostRuntime) -> io::Result<()> {
+    for line in BufReader::new(rt.alloc(), rt.reader())?.lines(rt.alloc()) {
+        table::run(&rt, line?.as_str())?;
     }
+    Ok(())
 }

@@ -1,85 +1,60 @@
 // What a call answers: that it is accepted, or its number and whether what was handed in is as before.
-use observations::refused::print_refusal;
-use spins::{Outcome, Refusal};
+use crate::answers::Made;
+use observations::records::Same;
+use spins::Refusal;
+use std::io;
 
-pub(crate) fn accepted() {
-    io::write_all(1, b"accepted\n");
-}
+// What stands beside a refusal where the record handed in is the caller's own and the answer has none: the record is as before, and where
+// the answer has a power of i, this is read as 0.
+pub(crate) const STATE: &str = "; state as before";
 
-// A refusal by an entry that gives nothing back.
-pub(crate) fn refused(why: Refusal) {
-    print_refusal(why);
-    io::write_all(1, b"\n");
-}
+pub(crate) const POWER_AND_STATE: &str = "; power 0; state as before";
 
-// Whether the state came back as it was.
-fn print_state(same: bool) {
-    if same {
-        io::write_all(1, b"; state as before\n");
-    } else {
-        io::write_all(1, b"; state changed\n");
-    }
+// The same where the answer is of another type than what was handed in: the empty record is read.
+pub(crate) const POWER_AND_EMPTY: &str = "; power 0; empty beside it";
+
+// Whether the state is as before.
+fn state(same: bool) -> &'static str {
+    if same { STATE } else { "; state changed" }
 }
 
 // Whether the empty record stands there, where the answer is of another type than what was handed in.
-fn print_anew(empty: bool) {
+fn empty(empty: bool) -> &'static str {
     if empty {
-        io::write_all(1, b"; empty beside it\n");
+        "; empty beside it"
     } else {
-        io::write_all(1, b"; not empty beside it\n");
+        "; not empty beside it"
     }
 }
 
-fn print_power(power: u8) {
-    io::write_all(1, b"; power ");
-    io::print_decimal(1, power as u64);
-}
-
-// A refusal, and whether the state came back as it was.
-pub(crate) fn kept(why: Refusal, same: bool) {
-    print_refusal(why);
-    print_state(same);
-}
-
-// An outcome, and whether the state came back as it was.
-pub(crate) fn told(outcome: Outcome, same: bool) {
-    match outcome {
-        Outcome::Done => accepted(),
-        Outcome::Refused(why) => kept(why, same),
+// An answer, and what stands beside it where it is a refusal.
+pub(crate) fn told<T: Drop>(
+    rt: &impl Print,
+    answer: Result<T, Refusal>,
+    beside: &str,
+) -> io::Result<()> {
+    match answer {
+        Ok(_) => println!(rt; "accepted"),
+        Err(why) => println!(rt; "refused {why}{beside}"),
     }
 }
 
-// The same with the power of i beside a refusal.
-pub(crate) fn told_power(outcome: Outcome, power: u8, same: bool) {
-    match outcome {
-        Outcome::Done => accepted(),
-        Outcome::Refused(why) => {
-            print_refusal(why);
-            print_power(power);
-            print_state(same);
-        }
-    }
+// An answer, and the record after the call held to the one before it.
+pub(crate) fn kept<S: Same>(
+    rt: &impl Print,
+    answer: Result<(), Refusal>,
+    before: &S,
+    after: &S,
+) -> io::Result<()> {
+    told(rt, answer, state(after.same(true, before)))
 }
 
-// An outcome of an entry that answers another type, and whether the empty record stands beside its refusal.
-pub(crate) fn told_anew(outcome: Outcome, empty: bool) {
-    match outcome {
-        Outcome::Done => accepted(),
-        Outcome::Refused(why) => {
-            print_refusal(why);
-            print_anew(empty);
-        }
-    }
+// An answer with the record that it hands back, held to the one handed in.
+pub(crate) fn handed_back<S: Same>(rt: &impl Print, before: &S, r: Made<S>) -> io::Result<()> {
+    kept(rt, r.answer, before, &r.record)
 }
 
-// The same with the power of i beside a refusal.
-pub(crate) fn told_power_anew(outcome: Outcome, power: u8, empty: bool) {
-    match outcome {
-        Outcome::Done => accepted(),
-        Outcome::Refused(why) => {
-            print_refusal(why);
-            print_power(power);
-            print_anew(empty);
-        }
-    }
+// An answer of another type than what was handed in, held to the empty record.
+pub(crate) fn made<S: Same>(rt: &impl Print, none: &S, r: Made<S>) -> io::Result<()> {
+    told(rt, r.answer, empty(r.record.same(true, none)))
 }

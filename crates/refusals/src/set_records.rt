@@ -1,124 +1,112 @@
 // Sets and pairs of a case, from its numbers; well-formed or not.
-ghost use Rattle.std.specs.Prelude.{◌≤◌};
-
-use crate::records::{product, two_items, value};
+use crate::numbers::{Numbers, Placed, coefficient, two_items};
 use spins::{
-    Complex, Items, NoiseSet, NoiseTerm, PauliHamiltonian, PauliLindbladNoiseOperator,
-    PauliOperator, RealTerm, Term, TermSet,
+    Complex, Items, MOST_TERMS, NoiseSet, NoiseTerm, PauliHamiltonian, PauliOperator, RealTerm,
+    Term, TermSet,
 };
+use std::array;
 
-// A set with a term at a place, if it has the place, under a count.
-fn placed(s: TermSet, at: usize, key: Items, value: Complex, count: usize) -> TermSet {
-    let mut r = s;
-    if at < 64 {
-        r.terms[at] = Term {
-            items: key,
-            coefficient: value,
-        };
-    }
-    r.count = count;
-    r
+const X0: Placed = Placed { site: 0, letter: 1 };
+
+// No letter, in a place past the count.
+const NONE: Placed = Placed { site: 0, letter: 0 };
+
+// The product of one letter.
+fn one_item(letter: Placed) -> Items {
+    two_items(1, letter, 1, NONE)
 }
 
 // The first n of 64 different keys: X on the sites 0 to 30, then Y, then Z.
-fn filled(n: usize, value: Complex) -> TermSet {
-    let none = PauliOperator::new();
-    let mut s = none.terms;
-    let mut site: u8 = 0;
-    let mut letter: u8 = 1;
-    let mut i = 0usize;
-    while i < n {
-        s = placed(s, i, two_items(1, site, letter, 0, 0), value, n);
-        site = std::num::wrapping_add_u8(site, 1);
-        if site == 31 {
-            site = 0;
-            letter = std::num::wrapping_add_u8(letter, 1);
-        }
-        i += 1;
+fn filled(n: usize, coefficient: Complex) -> TermSet {
+    let mut s = PauliOperator::new().terms;
+    for i in 0..n.min(MOST_TERMS) {
+        let items = one_item(Placed {
+            site: (i % 31) as u8,
+            letter: (1 + i / 31) as u8,
+        });
+        s.terms[i] = Term { items, coefficient };
     }
     s
 }
 
 // 1Z and 2Z, then products below the place n, each with minus X0 times it.
 fn cancelling(n: usize) -> TermSet {
-    let one = value(1);
-    let none = PauliOperator::new();
-    let mut s = placed(none.terms, 0, two_items(1, 1, 3, 0, 0), one, 1);
-    s = placed(s, 1, two_items(1, 2, 3, 0, 0), one, 2);
-    let mut site: u8 = 1;
-    let mut letter: u8 = 1;
-    let mut i = 2usize;
-    while i < 64 {
-        if i < n {
-            s = placed(s, i, two_items(1, site, letter, 0, 0), one, n);
-            s = placed(s, i + 1, two_items(2, 0, 1, site, letter), value(2), n);
+    let one = coefficient(1);
+    let minus_one = coefficient(2);
+    let mut s = PauliOperator::new().terms;
+    for i in 0..2 {
+        let z = Placed {
+            site: i as u8 + 1,
+            letter: 3,
+        };
+        s.terms[i] = Term {
+            items: one_item(z),
+            coefficient: one,
+        };
+    }
+    for i in 0..31 {
+        let at = 2 + 2 * i;
+        if at < n {
+            let key = Placed {
+                site: (1 + i % 30) as u8,
+                letter: (1 + i / 30) as u8,
+            };
+            s.terms[at] = Term {
+                items: one_item(key),
+                coefficient: one,
+            };
+            s.terms[at + 1] = Term {
+                items: two_items(2, X0, 1, key),
+                coefficient: minus_one,
+            };
         }
-        site = std::num::wrapping_add_u8(site, 1);
-        if site == 31 {
-            site = 1;
-            letter = 2;
-        }
-        i += 2;
     }
     s
 }
 
-// A set of six numbers from place k on: how many keys are filled in (from 100 on, cancelling) and with what coefficient, then the place,
-// the product and the coefficient of one more term, then the count.
-pub(crate) fn set(a: [u64; 26], k: usize) -> TermSet
-    requires { k ≤ 20 }
-{
-    let n = a[k] as usize;
-    let base = if n < 100 {
-        filled(n, value(a[k + 1]))
-    } else {
-        cancelling(n - 100)
-    };
-    placed(
-        base,
-        a[k + 2] as usize,
-        product(a[k + 3]),
-        value(a[k + 4]),
-        a[k + 5] as usize,
-    )
+impl Numbers<'_> {
+    // A set: how many keys are filled in (from 100 on, cancelling) and with what coefficient, then the place, the product and the
+    // coefficient of one more term, then the count.
+    pub(crate) fn set(&mut self) -> TermSet {
+        let n = self.count();
+        let coefficient = self.coefficient();
+        let mut s = if n < 100 {
+            filled(n, coefficient)
+        } else {
+            cancelling(n - 100)
+        };
+        let at = self.count();
+        let items = self.product();
+        let coefficient = self.coefficient();
+        if at < MOST_TERMS {
+            s.terms[at] = Term { items, coefficient };
+        }
+        s.count = self.count();
+        s
+    }
+
+    // The pairs of two sets' products at the same place, with the coefficients and the count of the first.
+    pub(crate) fn pairs(&mut self) -> NoiseSet {
+        let left = self.set();
+        let right = self.set();
+        NoiseSet {
+            count: left.count,
+            terms: array::from_fn(|i| NoiseTerm {
+                left: left.terms[i].items,
+                right: right.terms[i].items,
+                coefficient: left.terms[i].coefficient,
+            }),
+        }
+    }
 }
 
 // The same set with real coefficients.
 pub(crate) fn hamiltonian(s: TermSet) -> PauliHamiltonian {
-    let mut h = PauliHamiltonian::new();
-    let mut i = 0usize;
-    while i < 64 {
-        let t = s.terms[i];
-        let p = t.items;
-        let c = t.coefficient;
-        h.terms[i] = RealTerm {
-            items: p,
-            coefficient: c.re,
-        };
-        i += 1;
+    PauliHamiltonian {
+        count: s.count,
+        terms: s.terms.map(|t| RealTerm {
+            items: t.items,
+            coefficient: t.coefficient.re,
+        }),
     }
-    h.count = s.count;
-    h
-}
-
-// The pairs of two sets' products at the same place, with the coefficients and the count of the first.
-pub(crate) fn pairs(s: TermSet, u: TermSet) -> NoiseSet {
-    let none = PauliLindbladNoiseOperator::new();
-    let mut w = none.set;
-    let mut i = 0usize;
-    while i < 64 {
-        let t = s.terms[i];
-        let v = u.terms[i];
-        let p = t.items;
-        let q = v.items;
-        let c = t.coefficient;
-        w.terms[i] = NoiseTerm {
-            left: p,
-            right: q,
-            coefficient: c,
-        };
-        i += 1;
-    }
-    w.count = s.count;
-    w
 }

@@ -1,23 +1,17 @@
 // The entries on single letters, given two letters.
-use crate::records::small;
-use crate::report::{accepted, refused};
-use spins::{LetterAnswer, single_decoherence_operator, single_pauli_operator};
+use crate::numbers::Numbers;
+use crate::report::told;
+use spins::Kind;
+use std::io;
 
-fn told(a: LetterAnswer) {
-    match a {
-        LetterAnswer::Letter(_, _) => accepted(),
-        LetterAnswer::Refused(why) => refused(why),
-    }
-}
-
-pub(crate) fn call(a: [u64; 26]) {
-    let x = small(a[1]);
-    let y = small(a[2]);
-    match a[0] {
-        0 => told(single_pauli_operator::multiply(x, y)),
-        1 => told(single_decoherence_operator::multiply(x, y)),
-        2 => told(single_decoherence_operator::hermitian_conjugate(x)),
-        3 => told(single_decoherence_operator::decoherence_to_spin(x)),
-        _ => told(single_decoherence_operator::spin_to_decoherence(x)),
-    }
+pub(crate) fn call(rt: &impl Print, entry: u64, numbers: &mut Numbers) -> io::Result<()> {
+    let x = numbers.small();
+    let answer = match entry {
+        0 => Kind::Pauli.multiply(x, numbers.small()),
+        1 => Kind::Decoherence.multiply(x, numbers.small()),
+        2 => Kind::Decoherence.conjugate(x),
+        3 => Kind::Decoherence.convert(x),
+        _ => Kind::Pauli.convert(x),
+    };
+    told(rt, answer, "")
 }

@@ -2,15 +2,21 @@
 -- Assumes nothing.
 use mathlib.Core.Path.{◌≡◌, refl, sym, ap, ◌∙◌}
 use mathlib.Core.Bool.{Bool, true, false, not, cond, ◌||◌, true≢false}
+use mathlib.Core.List.{List, [], ◌∷◌}
 use mathlib.Core.Logic.{⊎_elim, ◌⊎◌, inl, inr}
 use Prim.Native.Nat.{ℕ, zero, suc, ◌+◌, ◌-◌, ◌≤◌, ◌<◌, min}
 use native.Mathlib.Nat.{le_antisymm, not-suc-le-zero, eq-or-lt_of_le, le-max_left, le-max_right, max-le, min-eq_left, min-eq_right, min-le_right}
 use native.Mathlib.Decide.{ℕ_discrete, dec_lt}
 use native.Mathlib.Omega.{arith}
 use lib.Dec.{ltb, eqb}
-use borrow.Author.Tests.{lt-ltb, le-ltb, ltb-false, eq-eqb, ne_eqb}
+use lib.ListN.{length, take}
+use borrow.Author.Tests.{le-ltb, ltb-false, eq-eqb, ne_eqb}
+use Rattle.std.specs.Prelude.{Option, Some, None, MatchOption, nat_lt}
+use Rattle.std.specs.List.{find}
+use Rattle.std.proofs.Common.{add-zero}
 use Rattle.letters.specs.Tests.{first_from}
-use Rattle.letters.proofs.TestLaws.{every_intro, every_false, first_at_lem, first_none, first_before}
+use Rattle.letters.proofs.TestLaws.{every_intro, every_false, first_none, first_before}
+use Rattle.items.specs.Lists.{at}
 use Rattle.items.specs.Record.{highest_site}
 use Rattle.remapping.specs.Insertion.{Ascending}
 use Rattle.remapping.specs.Targets.{has_target, lowest_shared, target_reach, first_too_high}
@@ -29,35 +35,47 @@ pub too_high_ext : (t u : ℕ → ℕ) (n : ℕ) → ((i : ℕ) → i < n → t 
 unfolding first_too_high
 too_high_ext t u n h = first_ext (λ i. ltb highest_site (t i)) (λ i. ltb highest_site (u i)) n 0 (λ k a b. ap (ltb highest_site) (h k (omega arith)))
 
--- none of the first i targets is too high
-pub record Low (t : ℕ → ℕ) (n i : ℕ) : Type 0 where
-  pub within : i ≤ n
-  pub low : (k : ℕ) → k < i → t k ≤ highest_site
+-- where a test passes first among the first n numbers of a list
+abbrev Found : (ℕ → ℕ) → ℕ → ℕ → ℕ → Option ℕ → Type 0
+Found f n i first r = MatchOption r (first ≡ i + n) (λ s. (j : ℕ) × (first ≡ i + j) × (j < n) × (s ≡ f j))
 
-pub low_none : (t : ℕ → ℕ) (n : ℕ) → Low t n 0
-low_none t n = record { within = omega arith; low = λ k l. absurd (not-suc-le-zero l) }
+found_from : (test p : ℕ → Bool) (t : List ℕ) (n i : ℕ) → n ≤ length t → ((k : ℕ) → k < n → p (i + k) ≡ test (at t k))
+    → Found (at t) n i (first_from p n i) (find test (take n t))
+unfolding first_from
+found_from test p t zero i h e = omega arith
+found_from test p [] (suc n) i h e = absurd (omega arith)
+found_from test p (x ∷ xs) (suc n) i h e =
+    let first : p i ≡ test x = rw add-zero at (e 0 (omega arith)) in
+    go (test x) first
+    (found_from test p xs n (suc i) (omega arith) (λ k l. let z : suc i + k ≡ i + suc k = omega arith in ap p z ∙ e (suc k) (omega arith)))
+  where
+    later : (f : ℕ) (r : Option ℕ) → Found (at xs) n (suc i) f r → Found (at (x ∷ xs)) (suc n) i f r
+    later f None e = omega arith
+    later f (Some s) e = (suc e.0, omega (arith, e.1), omega (arith, e.2), e.3)
 
-pub low_more : {t : ℕ → ℕ} {n i : ℕ} → Low t n i → i < n → t i ≤ highest_site → Low t n (i + 1)
-low_more {t} {n} {i} h l m =
-    record {
-      within = omega arith;
-      low = λ k a. ⊎_elim (λ e. omega (arith, ap t e)) (λ q. h.low k q) (below_cases k i (omega arith));
-    }
+    go : (b : Bool) → p i ≡ b → Found (at xs) n (suc i) (first_from p n (suc i)) (find test (take n xs))
+        → Found (at (x ∷ xs)) (suc n) i (cond (p i) i (first_from p n (suc i))) (cond b (Some x) (find test (take n xs)))
+    go true q r = (0, rw q (omega arith), omega arith, refl)
+    go false q r = rw q (later _ _ r)
 
--- the scan ends at the first that is, or at the count
-pub low_found : {t : ℕ → ℕ} {n i : ℕ} → Low t n i → i < n → highest_site < t i → i ≡ first_too_high t n
+-- none of the first n targets is too high, or s is the first that is
+pub too_high_found : (t : List ℕ) (n : ℕ) → n ≤ length t → (r : Option ℕ) → r ≡ find (nat_lt highest_site) (take n t)
+    → MatchOption r (n ≤ first_too_high (at t) n) (λ s. (first_too_high (at t) n < n) × (s ≡ at t (first_too_high (at t) n)))
 unfolding first_too_high
-low_found {t} {n} {i} h l m =
-    sym
-    (first_at_lem (λ k. ltb highest_site (t k)) n 0 i (omega arith) (omega arith) (λ k a b. le-ltb highest_site (t k) (h.low k b)) (lt-ltb highest_site (t i) m))
+too_high_found t n h r e = go _ r (rw (← e) at (found_from (nat_lt highest_site) (λ k. ltb highest_site (at t k)) t n 0 h same))
+  where
+    same : (k : ℕ) → k < n → ltb highest_site (at t (0 + k)) ≡ nat_lt highest_site (at t k)
+    same k l = let z : 0 + k ≡ k = omega arith in ap (λ (m : ℕ). ltb highest_site (at t m)) z
 
-pub low-done : {t : ℕ → ℕ} {n i : ℕ} → Low t n i → n ≤ i → n ≡ first_too_high t n
+    go : (f : ℕ) (r : Option ℕ) → Found (at t) n 0 f r → MatchOption r (n ≤ f) (λ s. (f < n) × (s ≡ at t f))
+    go f None e = omega arith
+    go f (Some s) e = let z : f ≡ e.0 = omega (arith, e.1) in rw z (e.2, e.3)
+
+-- where all are low, and only there, no target is too high
+pub none_too_high : (t : ℕ → ℕ) (n : ℕ) → ((i : ℕ) → i < n → t i ≤ highest_site) → n ≤ first_too_high t n
 unfolding first_too_high
-low-done {t} {n} {i} h l =
-    let e : 0 + n ≡ n = omega arith in
-    sym (first_none (λ k. ltb highest_site (t k)) n 0 (λ k a b. le-ltb highest_site (t k) (h.low k (omega arith))) ∙ e)
+none_too_high t n h = omega (arith, first_none (λ k. ltb highest_site (t k)) n 0 (λ k a b. le-ltb highest_site (t k) (h k (omega arith))))
 
--- where the count is answered, no target is too high
 pub all_low : (t : ℕ → ℕ) (n : ℕ) → n ≤ first_too_high t n → (i : ℕ) → i < n → t i ≤ highest_site
 unfolding first_too_high
 all_low t n h i l = ltb-false highest_site (t i) (first_before (λ k. ltb highest_site (t k)) n 0 i (omega arith) (omega arith))
@@ -252,25 +270,7 @@ apart_from a j zero l m = absurd (not-suc-le-zero l)
 apart_from {t} {i} a j (suc k) l m =
     ⊎_elim (λ e. omega (arith, ap t e, a.rise k m)) (λ q. omega (arith, apart_from a j k q (omega arith), a.rise k m)) (below_cases j k l)
 
-pub apart_none : (t : ℕ → ℕ) → Apart t 1
-apart_none t = record { begun = omega arith; rise = λ k l. absurd (omega arith) }
-
 module _ {t : ℕ → ℕ} {n i : ℕ} (a : Apart t i) (up : Ascending t n) where
-  pub apart_more : i < n → (t (i - 1) ≡ t i → ⊥) → Apart t (i + 1)
-  apart_more l d =
-      record {
-        begun = omega arith;
-        rise =
-            λ k m. elim (dec_lt (suc k) i) [
-              | yes q ↦ a.rise k q
-              | no q ↦
-                  (let e : suc k ≡ i = omega (arith, a.begun) in
-                  let e' : k ≡ i - 1 = omega arith in
-                  let r = up.rising k (omega arith) in
-                  ⊎_elim (λ z. absurd (d (ap t (sym e') ∙ z ∙ ap t e))) (λ z. z) (eq-or-lt_of_le r))
-            ];
-      }
-
   -- the first neighbours that are equal have the lowest shared target
   pub apart_found : i < n → t (i - 1) ≡ t i → t i ≡ lowest_shared t n
   apart_found l e =
@@ -286,7 +286,7 @@ module _ {t : ℕ → ℕ} {n i : ℕ} (a : Apart t i) (up : Ascending t n) wher
       le_antisymm least most
 
 -- where there are none, no target is shared
-pub apart_done : {t : ℕ → ℕ} {n i : ℕ} → Apart t i → n ≤ i → suc highest_site ≡ lowest_shared t n
+pub apart_done : {t : ℕ → ℕ} {n i : ℕ} → Apart t i → n ≤ i → lowest_shared t n ≡ suc highest_site
 apart_done {t} {n} a l =
     let above = apart_unshared t n (λ j k q r e. omega (arith, apart_from a j k q (omega arith))) in
     omega (arith, shared_most t n)

@@ -4,12 +4,12 @@ use mathlib.Core.Path.{◌≡◌, refl, sym, ap, ap₂, subst, ◌∙◌}
 use mathlib.Core.Bool.{true}
 use mathlib.Core.List.{[], ◌∷◌}
 use Prim.Native.Nat.{ℕ, ◌+◌, ◌-◌, ◌*◌, ◌/◌, ◌%◌, ◌^◌, ◌≤◌, ◌<◌, min}
-use native.Mathlib.Nat.{zero-add, add_assoc, add-mod-mod, add-mul-mod_self_right, mod-lt, mod-eq_of_lt, div-lt_iff_lt-mul}
+use native.Mathlib.Nat.{zero-add, add_assoc, add-mod-mod, add-mul-mod_self_right, mod-lt, mod-eq_of_lt, div-lt_iff_lt-mul, min-le_right}
 use native.Mathlib.Omega.{arith}
 use lib.Arith.{digits_lt}
 use lib.Bits.{bit_and, bit_xor}
 use lib.Count.{ones}
-use lib.Pow.{pow-add, pow_mono, pow_pos}
+use lib.Pow.{pow-add, pow_pos}
 use Rattle.letters.specs.Matrices.{Letters, pauli, decoherence, letters_of}
 use Rattle.letters.specs.Rows.{column_of, row_power}
 use Rattle.letters.specs.declared.Kind.{Kind}
@@ -37,44 +37,25 @@ pub entry_small : (M : Letters) (p n r : ℕ) → Small n (operator_entry M p n 
 unfolding operator_entry
 entry_small M p n r = record { column = mod-lt _ (pow_pos n); power = from_masks_power_lt M p r }
 
--- what the code finds, its column within the matrix
-pub entry_found : (M : Letters) (p n r : ℕ) {d : ℕ} {w : ℕ × ℕ} → w ≡ entry_from_masks M p r → d ≡ 2 ^ n → (w.0 % d, w.1) ≡ operator_entry M p n r
-unfolding operator_entry
-entry_found M p n r e s = rw (e, s)
-
 -- ---- pairs fit 64 bits
 
--- the rows of a superoperator, where d is the matrix's size
-pub square_fits : {d : ℕ} (n : ℕ) → n ≤ most_spins → d ≡ 2 ^ n → d * d < 2 ^ 64
-square_fits n h e =
-    let s : 2 ^ (n + n) ≡ 2 ^ n * 2 ^ n = pow-add 2 n n in
-    let m : 2 ^ (n + n) ≤ 2 ^ 62 = pow_mono {j = 62} (omega arith) in
-    rw e (omega arith)
-
--- their count
+-- the count of the rows of a superoperator
 pub square_few : {size : ℕ} (n : ℕ) → n ≤ most_spins → size ≡ 2 ^ min n most_spins * 2 ^ min n most_spins → size ≡ 2 ^ n * 2 ^ n
 square_few n h e = few-spins (λ k. 2 ^ k * 2 ^ k) n h e
 
--- a pair of columns
-pub pair_fits : {a b d : ℕ} (n : ℕ) → n ≤ most_spins → d ≡ 2 ^ n → a < 2 ^ n → b < 2 ^ n → a * d + b < 2 ^ 64
-pair_fits {a} {b} n h e ha hb =
-    let p : a * 2 ^ n + b < 2 ^ n * 2 ^ n = digits_lt ha hb in
-    let s : 2 ^ n * 2 ^ n < 2 ^ 64 = square_fits n h refl in
-    rw e (omega arith)
-
 -- the first half of any row of 64 bits with a column
-pub row_fits : {b d : ℕ} (n row : ℕ) → n ≤ most_spins → d ≡ 2 ^ n → row < 2 ^ 64 → b < 2 ^ n → row / d * d + b < 2 ^ 64
-row_fits {b} n row h e hr hb =
-    let s : 2 ^ (64 - n + n) ≡ 2 ^ (64 - n) * 2 ^ n = pow-add 2 (64 - n) n in
-    let o : 64 ≡ 64 - n + n = omega arith in
-    let t : 2 ^ 64 ≡ 2 ^ (64 - n + n) = ap (λ k. 2 ^ k) o in
-    let q : row / 2 ^ n < 2 ^ (64 - n) = (div-lt_iff_lt-mul (pow_pos n)).1 (omega arith) in
-    let p : row / 2 ^ n * 2 ^ n + b < 2 ^ (64 - n) * 2 ^ n = digits_lt q hb in
-    rw e (omega arith)
-
--- a row's second half
-pub rest_below : {d : ℕ} (n row : ℕ) → d ≡ 2 ^ n → row % d < 2 ^ n
-rest_below n row e = rw e (mod-lt row (pow_pos n))
+pub row_fits : (spins row x : ℕ) → row < 2 ^ 64
+    → row / 2 ^ min spins most_spins * 2 ^ min spins most_spins + x % 2 ^ min spins most_spins < 2 ^ 64
+row_fits spins row x h = go (min spins most_spins) (min-le_right spins most_spins)
+  where
+    go : (n : ℕ) → n ≤ most_spins → row / 2 ^ n * 2 ^ n + x % 2 ^ n < 2 ^ 64
+    go n few =
+        let s : 2 ^ (64 - n + n) ≡ 2 ^ (64 - n) * 2 ^ n = pow-add 2 (64 - n) n in
+        let o : 64 ≡ 64 - n + n = omega arith in
+        let t : 2 ^ 64 ≡ 2 ^ (64 - n + n) = ap (λ k. 2 ^ k) o in
+        let q : row / 2 ^ n < 2 ^ (64 - n) = (div-lt_iff_lt-mul (pow_pos n)).1 (omega arith) in
+        let p : row / 2 ^ n * 2 ^ n + x % 2 ^ n < 2 ^ (64 - n) * 2 ^ n = digits_lt q (mod-lt x (pow_pos n)) in
+        omega arith
 
 -- ---- powers of i by counts of bits
 
@@ -112,7 +93,7 @@ half_power m s t x y =
 -- ---- the entries of a row from the masks
 
 -- by the flips f and the signs s of the masks p; b is the column of row l
-commutator_by_masks : (p n row : ℕ)
+pub commutator_by_masks : (p n row : ℕ)
     → let k = row / 2 ^ n in let l = row % 2 ^ n in let f = flip_of p in let s = sign_of p in let b = bit_xor l f % 2 ^ n in
     (bit_xor k f % 2 ^ n * 2 ^ n + l, (3 + 3 * (ones (bit_and f s) % 4) + 2 * (ones (bit_and k s) % 2)) % 4)
     ∷ (k * 2 ^ n + b, (1 + 3 * (ones (bit_and f s) % 4) + 2 * (ones (bit_and b s) % 2)) % 4) ∷ []
@@ -125,17 +106,8 @@ commutator_by_masks p n row =
     rw power_of_y_pauli
     (ap₂ (λ (x y : ℕ). (bit_xor k (flip_of p) % 2 ^ n * 2 ^ n + row % 2 ^ n, x) ∷ (k * 2 ^ n + b, y) ∷ []) (y_power_lem 3 ys (ones (bit_and k (sign_of p)))) (y_power_lem 1 ys (ones (bit_and b (sign_of p)))))
 
--- from the masks that the code reads, where d is the matrix's size
-pub commutator_found : (p n row : ℕ) {d ys a b : ℕ} {left right : ℕ × ℕ} → d ≡ 2 ^ n
-    → ys ≡ 3 * (ones (bit_and (p % 2 ^ 32) (p / 2 ^ 32)) % 4)
-    → a ≡ 2 * (ones (bit_and (row / d) (p / 2 ^ 32)) % 2) → left ≡ (bit_xor (row / d) (p % 2 ^ 32) % d * d + row % d, (3 + ys + a) % 4)
-    → b ≡ 2 * (ones (bit_and (bit_xor (row % d) (p % 2 ^ 32) % d) (p / 2 ^ 32)) % 2) → right ≡ (row / d * d + bit_xor (row % d) (p % 2 ^ 32) % d, (1 + ys + b) % 4)
-    → left ∷ right ∷ [] ≡ commutator_entries p n row
-unfolding flip_of sign_of
-commutator_found p n row d ys a left b right = rw (left, right, ys, a, b, d) (commutator_by_masks p n row)
-
 -- by the flips and the signs of the masks p and q; m is the column of row k of R, and w that of row l of L
-noise_by_masks : (p q n row : ℕ)
+pub noise_by_masks : (p q n row : ℕ)
     → let k = row / 2 ^ n in let l = row % 2 ^ n in let m = bit_xor k (flip_of q) % 2 ^ n in let w = bit_xor l (flip_of p) % 2 ^ n in let s = bit_xor (sign_of p) (sign_of q) in
     (bit_xor k (flip_of p) % 2 ^ n * 2 ^ n + bit_xor l (flip_of q) % 2 ^ n, 2 * (ones (bit_xor (bit_and k (sign_of p)) (bit_and l (sign_of q))) % 2) % 4)
     ∷ (bit_xor m (flip_of p) % 2 ^ n * 2 ^ n + l, 2 * (ones (bit_and m s) % 2) % 4)
@@ -155,16 +127,6 @@ noise_by_masks p q n row =
       half_power m (sign_of p) (sign_of q) y x,
       half_power w (sign_of p) (sign_of q) y x,
     )
-
--- from the masks that the code reads
-pub noise_found : (p q n row : ℕ) {d a b c : ℕ} {jump left right : ℕ × ℕ} → d ≡ 2 ^ n
-    → let k = row / d in let l = row % d in let f = p % 2 ^ 32 in let g = q % 2 ^ 32 in let s = p / 2 ^ 32 in let t = q / 2 ^ 32 in
-    a ≡ 2 * (ones (bit_xor (bit_and k s) (bit_and l t)) % 2) → jump ≡ (bit_xor k f % d * d + bit_xor l g % d, a % 4)
-    → b ≡ 2 * (ones (bit_and (bit_xor k g % d) (bit_xor s t)) % 2) → left ≡ (bit_xor (bit_xor k g % d) f % d * d + l, b % 4)
-    → c ≡ 2 * (ones (bit_and (bit_xor l f % d) (bit_xor s t)) % 2) → right ≡ (k * d + bit_xor (bit_xor l f % d) g % d, c % 4)
-    → jump ∷ left ∷ right ∷ [] ≡ noise_entries p q n row
-unfolding flip_of sign_of
-noise_found p q n row d a jump b left c right = rw (jump, left, right, a, b, c, d) (noise_by_masks p q n row)
 
 -- ---- a product that fits n spins
 

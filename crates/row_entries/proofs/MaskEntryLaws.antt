@@ -21,7 +21,7 @@ use Rattle.letters.specs.declared.Kind.TheVariants.{Pauli, Decoherence}
 use Rattle.letters.proofs.TestLaws.{every-at}
 use Rattle.letters.proofs.BitLaws.{bit_lt, binary_lt, low_suc}
 use Rattle.items.specs.Record.{valid, letter_at, reach}
-use Rattle.items.specs.Masks.{letter_bits, masks_of, flip_of, sign_of}
+use Rattle.items.specs.Masks.{letter_bits, masks_of}
 use Rattle.row_entries.specs.MaskEntries.{power_of_Y, entry_from_masks}
 use Rattle.items.specs.declared.Items.{Items}
 use Rattle.items.proofs.MaskLaws.{flip_bit, sign_bit, flip_lt, sign_lt, flips, signs, letter_lt, flips_masked, signs_masked}
@@ -111,46 +111,23 @@ pub power_of_y_decoherence : power_of_Y decoherence ≡ 0
 unfolding power_of_Y cell first_from eq_G eqℤ two_by_two decoherence i^ 𝟘 𝟙 −𝟙 i⁺ i⁻ ◌⊗◌
 power_of_y_decoherence = refl
 
-abbrev y_power : Kind → ℕ
-y_power Pauli = 3
-y_power Decoherence = 0
-
-power_of_y_found : (kind : Kind) → y_power kind ≡ power_of_Y (letters_of kind)
-unfolding letters_of
-power_of_y_found Pauli = sym power_of_y_pauli
-power_of_y_found Decoherence = sym power_of_y_decoherence
-
-pub power_of_y_is : {kind kind' : Kind} {t : ℕ} → kind ≡ kind' → t ≡ y_power kind' → t ≡ power_of_Y (letters_of kind)
-power_of_y_is {kind} e t = t ∙ ap y_power (sym e) ∙ power_of_y_found kind
-
 power_of_y_most : (kind : Kind) → power_of_Y (letters_of kind) ≤ 3
-power_of_y_most kind = rw (← power_of_y_found kind) (go kind)
-  where
-    go : (kind : Kind) → y_power kind ≤ 3
-    go Pauli = omega arith
-    go Decoherence = omega arith
+unfolding letters_of
+power_of_y_most Pauli = rw power_of_y_pauli (omega arith)
+power_of_y_most Decoherence = rw power_of_y_decoherence (omega arith)
 
--- the counts of the code fit
-pub record Counts (t m r : ℕ) : Type 0 where
-  pub of_ys : t * ones (bit_and (m % 2 ^ 32) (m / 2 ^ 32)) < 2 ^ 32
-  pub doubled : 2 * ones (bit_and r (m / 2 ^ 32)) < 2 ^ 32
-  pub both : t * ones (bit_and (m % 2 ^ 32) (m / 2 ^ 32)) + 2 * ones (bit_and r (m / 2 ^ 32)) < 2 ^ 32
-
-pub counts_fit : {t : ℕ} (kind : Kind) (m r : ℕ) → t ≡ power_of_Y (letters_of kind) → r < 2 ^ 64 → Counts t m r
-counts_fit {t} kind m r e h =
-    let few : t ≤ 3 = rw e (power_of_y_most kind) in
+-- the counts of the code fit: of the letters Y, and of the signs
+pub ys_few : (kind : Kind) (m : ℕ) → power_of_Y (letters_of kind) * ones (bit_and (m % 2 ^ 32) (m / 2 ^ 32)) ≤ 96
+ys_few kind m =
     let low : m % 2 ^ 32 < 2 ^ 32 = mod-lt m (omega arith) in
-    let ys : t * ones (bit_and (m % 2 ^ 32) (m / 2 ^ 32)) ≤ 3 * 32 = mul-le-mul few (ones-le 32 _ (lt_of_le_of_lt (and_le_l (m % 2 ^ 32) (m / 2 ^ 32)) low)) in
-    let minuses : ones (bit_and r (m / 2 ^ 32)) ≤ 64 = ones-le 64 _ (lt_of_le_of_lt (and_le_l r (m / 2 ^ 32)) h) in
-    record { of_ys = omega arith; doubled = omega arith; both = omega arith }
+    let most : power_of_Y (letters_of kind) * ones (bit_and (m % 2 ^ 32) (m / 2 ^ 32)) ≤ 3 * 32 =
+    mul-le-mul (power_of_y_most kind) (ones-le 32 _ (lt_of_le_of_lt (and_le_l (m % 2 ^ 32) (m / 2 ^ 32)) low)) in
+    most
 
--- what the code finds
-pub from_masks_found : (M : Letters) (m r : ℕ) {t : ℕ} → t ≡ power_of_Y M
-    → ◌≡◌ {A = ℕ × ℕ} (bit_xor r (m % 2 ^ 32), (t * ones (bit_and (m % 2 ^ 32) (m / 2 ^ 32)) + 2 * ones (bit_and r (m / 2 ^ 32))) % 4) (entry_from_masks M m r)
-unfolding entry_from_masks flip_of sign_of
-from_masks_found M m r t = rw t
+pub signs_few : (r m : ℕ) → r < 2 ^ 64 → ones (bit_and r (m / 2 ^ 32)) ≤ 64
+signs_few r m h = ones-le 64 _ (lt_of_le_of_lt (and_le_l r (m / 2 ^ 32)) h)
 
--- its power is below 4
+-- the power is below 4
 pub from_masks_power_lt : (M : Letters) (m r : ℕ) → (entry_from_masks M m r).1 < 4
 unfolding entry_from_masks
 from_masks_power_lt M m r = mod-lt _ (omega arith)

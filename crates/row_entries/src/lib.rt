@@ -9,40 +9,30 @@ ghost use Rattle.letters.specs.Matrices.{letters_of};
 ghost use Rattle.row_entries.specs.MaskEntries.{power_of_Y, entry_from_masks};
 ghost use Rattle.row_entries.specs.Entries.{operator_entry, commutator_entries, noise_entries};
 
-use items::masks::{MASK_SIZE, masks};
-use items::{Items, is_valid, reach_of};
+use items::Items;
+use items::masks::MASK_SIZE;
 use letters::Kind;
 use refusal::Refusal;
 
 // The most spins that a row takes.
 pub const MOST_SPINS: u32 = 31;
 
-// The entry of a row that is not zero: its column and its power of i.
-#[derive(Clone, Copy)]
-pub enum ItemsRow {
-    Entry(u64, u8),
-    Refused(Refusal),
-}
-
 // The count of the rows of a matrix over `spins` spins. More spins than a row takes count as the most.
 pub fn size_of(spins: u32) -> u64
     ensures { result ≡ 2 ^ min spins most_spins }
 {
-    if spins < MOST_SPINS {
-        1u64 << spins
-    } else {
-        1u64 << MOST_SPINS
-    }
+    1u64 << spins.min(MOST_SPINS)
 }
 
 // A column and a power of i.
-#[derive(Clone, Copy)]
+#[derive(Clone, Copy, PartialEq, Eq, Debug)]
 pub struct Entry {
     pub column: u64,
     pub power: u8,
 }
 
 // The power of i that stands in row 0 of Y.
+#[tactic(auto, using(crate::proofs::MaskEntryLaws::power_of_y_pauli, crate::proofs::MaskEntryLaws::power_of_y_decoherence), unfolding(letters::specs::Matrices::letters_of))]
 fn power_of_y(kind: Kind) -> u32
     ensures { result ≡ power_of_Y (letters_of kind) }
 {
@@ -53,13 +43,14 @@ fn power_of_y(kind: Kind) -> u32
 }
 
 // The column and the power of i of the entry of `row` that is not zero, of the product with these masks. Number 0 isn't judged.
+#[tactic(auto, using(crate::proofs::MaskEntryLaws::ys_few, crate::proofs::MaskEntryLaws::signs_few), unfolding(crate::specs::MaskEntries::entry_from_masks, items::specs::Masks::flip_of, items::specs::Masks::sign_of))]
 fn entry_from_masks(kind: Kind, masks: u64, row: u64) -> Entry
     ensures { ◌≡◌ {A = ℕ × ℕ} (result.column, result.power) (entry_from_masks (letters_of kind) masks row) }
 {
     let flip = masks % MASK_SIZE;
     let sign = masks / MASK_SIZE;
     let each_y = power_of_y(kind);
-    let power = each_y * u64::count_ones(flip & sign) + 2 * u64::count_ones(row & sign);
+    let power = each_y * (flip & sign).count_ones() + 2 * (row & sign).count_ones();
     Entry {
         column: row ^ flip,
         power: (power % 4) as u8,
@@ -67,35 +58,35 @@ fn entry_from_masks(kind: Kind, masks: u64, row: u64) -> Entry
 }
 
 // The column and the power of i of the entry of `row` that is not zero, over `spins` spins.
-pub fn row(kind: Kind, p: Items, spins: u32, row: u64) -> ItemsRow
-    ensures { said_row result ≡ row_answer (letters_of kind) p spins row }
+#[tactic(auto, using(crate::proofs::MaskEntryLaws::from_masks_inside), unfolding(crate::specs::Answers::row_answer))]
+pub fn row(kind: Kind, p: &Items, spins: u32, row: u64) -> Result<Entry, Refusal>
+    ensures { said_row result ≡ row_answer (letters_of kind) p.now spins row }
 {
-    if !is_valid(p) {
-        return ItemsRow::Refused(Refusal::Malformed);
+    if !p.is_valid() {
+        return Err(Refusal::Malformed);
     }
     if MOST_SPINS < spins {
-        return ItemsRow::Refused(Refusal::TooManySpins);
+        return Err(Refusal::TooManySpins);
     }
     if size_of(spins) <= row {
-        return ItemsRow::Refused(Refusal::RowOutOfRange);
+        return Err(Refusal::RowOutOfRange);
     }
-    let reach = reach_of(p);
+    let reach = p.reach();
     if (spins as usize) < reach {
-        return ItemsRow::Refused(Refusal::SiteOutsideSpins(reach - 1));
+        return Err(Refusal::SiteOutsideSpins(reach - 1));
     }
-    let entry = entry_from_masks(kind, masks(p), row);
-    ItemsRow::Entry(entry.column, entry.power)
+    Ok(entry_from_masks(kind, p.masks(), row))
 }
 
 // What a term of a Hamiltonian contributes: its left half and its right half.
-#[derive(Clone, Copy)]
+#[derive(Clone, Copy, PartialEq, Eq, Debug)]
 pub struct CommutatorEntries {
     pub left: Entry,
     pub right: Entry,
 }
 
 // What a pair of noise contributes: L on the left with R on the right, and R† L on the left half and on the right.
-#[derive(Clone, Copy)]
+#[derive(Clone, Copy, PartialEq, Eq, Debug)]
 pub struct NoiseEntries {
     pub jump: Entry,
     pub left: Entry,
@@ -122,6 +113,7 @@ fn paired(size: u64, a: u64, b: u64, power: u8) -> Entry
 }
 
 // The entry of the row of the product with these masks. Number 0 isn't judged again: the sets that products come from have been.
+#[tactic(auto, unfolding(crate::specs::Entries::operator_entry))]
 pub fn operator_entry(kind: Kind, masks: u64, spins: u32, row: u64) -> Entry
     ensures { ◌≡◌ {A = ℕ × ℕ} (result.column, result.power) (operator_entry (letters_of kind) masks (min spins most_spins) row) }
 {
@@ -137,17 +129,18 @@ pub fn operator_entry(kind: Kind, masks: u64, spins: u32, row: u64) -> Entry
 fn sign_power(x: u64) -> u8
     ensures { result ≡ 2 * (ones x % 2) }
 {
-    2 * ((u64::count_ones(x) % 2) as u8)
+    2 * ((x.count_ones() % 2) as u8)
 }
 
 // The power of i of the letters Y of a Pauli product with these masks: 3 for each.
 fn y_power(flip: u64, sign: u64) -> u8
     ensures { result ≡ 3 * (ones (bit_and flip sign) % 4) }
 {
-    3 * ((u64::count_ones(flip & sign) % 4) as u8)
+    3 * (((flip & sign).count_ones() % 4) as u8)
 }
 
 // The entries of the Pauli product with these masks in a commutator's row (k, l). Row l has its entry in column b.
+#[tactic(auto, using(crate::proofs::EntryLaws::row_fits, crate::proofs::EntryLaws::commutator_by_masks), unfolding(items::specs::Masks::flip_of, items::specs::Masks::sign_of))]
 pub fn commutator_entries(masks: u64, spins: u32, row: u64) -> CommutatorEntries
     ensures { ((result.left.column, result.left.power) ∷ (result.right.column, result.right.power) ∷ []) ≡ commutator_entries masks (min spins most_spins) row }
 {
@@ -165,6 +158,7 @@ pub fn commutator_entries(masks: u64, spins: u32, row: u64) -> CommutatorEntries
 
 // The entries of the pair of decoherence products with the masks `left` and `right` in a noise row (k, l). Row k of R has its entry in column m,
 // and row l of L in column w. All powers are even: iY has none of its own, so that only the parity of the signs counts.
+#[tactic(auto, using(crate::proofs::EntryLaws::row_fits, crate::proofs::EntryLaws::noise_by_masks), unfolding(items::specs::Masks::flip_of, items::specs::Masks::sign_of))]
 pub fn noise_entries(left: u64, right: u64, spins: u32, row: u64) -> NoiseEntries
     ensures { ((result.jump.column, result.jump.power) ∷ (result.left.column, result.left.power) ∷ (result.right.column, result.right.power) ∷ []) ≡ noise_entries left right (min spins most_spins) row }
 {

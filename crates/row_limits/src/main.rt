@@ -4,69 +4,103 @@
 mod report;
 mod systems;
 
-use report::{fewer, lent, named, named_in_row};
+use observations::buffers::{PLACES, Room};
+use report::{Failure, lent};
 use spins::PauliLindbladOpenSystem;
 use systems::{at_site, full, noise_at_site, worked};
 
 // No spins, too many spins, and the case of one spin that is worked out by hand.
-fn few_spins() {
+fn few_spins(rt: &(impl Print + AllocGlobal)) -> Result<(), Failure> {
+    let four = Room::each(4);
     let none = PauliLindbladOpenSystem::new();
-    named(b"no spins, row 0");
-    lent(none, 0, 0, 4, 4, 4);
-    named(b"no spins, row 1");
-    lent(none, 0, 1, 4, 4, 4);
-    named(b"32 spins");
-    lent(none, 32, 0, 4, 4, 4);
-    named(b"worked, row 0");
-    lent(worked(), 1, 0, 4, 4, 4);
-    named(b"worked, row 1");
-    lent(worked(), 1, 1, 4, 4, 4);
-    named(b"worked, row 4");
-    lent(worked(), 1, 4, 4, 4, 4);
-    named(b"worked, row 0, one place");
-    lent(worked(), 1, 0, 1, 1, 1);
+    lent(rt, "no spins, row 0", none, 0, 0, four)?;
+    lent(rt, "no spins, row 1", none, 0, 1, four)?;
+    lent(rt, "32 spins", none, 32, 0, four)?;
+    let worked = worked()?;
+    for row in [0, 1, 4] {
+        lent(rt, format_args!("worked, row {row}"), worked, 1, row, four)?;
+    }
+    lent(rt, "worked, row 0, one place", worked, 1, 0, Room::each(1))?;
+    Ok(())
 }
 
 // A site at the spin count, and one below it.
-fn sites() {
-    named(b"site 3 of 3 spins");
-    lent(at_site(3), 3, 0, 4, 4, 4);
-    named(b"site 3 of 4 spins");
-    lent(at_site(3), 4, 0, 4, 4, 4);
-    named(b"site 30 of 30 spins");
-    lent(at_site(30), 30, 0, 4, 4, 4);
-    named(b"site 30 of 31 spins");
-    lent(at_site(30), 31, 0, 4, 4, 4);
-    named(b"noise on site 3 of 3 spins");
-    lent(noise_at_site(3), 3, 0, 4, 4, 4);
-    named(b"noise on site 3 of 4 spins");
-    lent(noise_at_site(3), 4, 0, 4, 4, 4);
+fn sites(rt: &(impl Print + AllocGlobal)) -> Result<(), Failure> {
+    let four = Room::each(4);
+    for (site, spins) in [(3, 3), (3, 4), (30, 30), (30, 31)] {
+        let name = format_args!("site {site} of {spins} spins");
+        lent(rt, name, at_site(site)?, spins, 0, four)?;
+    }
+    for spins in [3, 4] {
+        let name = format_args!("noise on site 3 of {spins} spins");
+        lent(rt, name, noise_at_site(3)?, spins, 0, four)?;
+    }
+    Ok(())
 }
 
 // A full system in one row: with places to spare, with as many as entries, and with one less in some buffer.
-fn full_row(row: u64) {
-    let s = full();
-    named_in_row(row, b"all places");
-    let n = lent(s, 31, row, 324, 324, 324);
-    named_in_row(row, b"exact places");
-    lent(s, 31, row, n, n, n);
-    named_in_row(row, b"one place less");
-    lent(s, 31, row, fewer(n), fewer(n), fewer(n));
-    named_in_row(row, b"one column less");
-    lent(s, 31, row, fewer(n), n, n);
-    named_in_row(row, b"one real part less");
-    lent(s, 31, row, n, fewer(n), n);
-    named_in_row(row, b"one imaginary part less");
-    lent(s, 31, row, n, n, fewer(n));
+fn full_row(
+    rt: &(impl Print + AllocGlobal),
+    s: PauliLindbladOpenSystem,
+    row: u64,
+) -> Result<(), Failure> {
+    let name = format_args!("full, row {row}, all places");
+    let count = lent(rt, name, s, 31, row, Room::each(PLACES))?;
+    let exact = Room::each(count);
+    let less = Room::each(count.saturating_sub(1));
+    let rooms = [
+        ("exact places", exact),
+        ("one place less", less),
+        (
+            "one column less",
+            Room {
+                columns: less.columns,
+                ..exact
+            },
+        ),
+        (
+            "one real part less",
+            Room {
+                re: less.re,
+                ..exact
+            },
+        ),
+        (
+            "one imaginary part less",
+            Room {
+                im: less.im,
+                ..exact
+            },
+        ),
+    ];
+    for (places, room) in rooms {
+        lent(
+            rt,
+            format_args!("full, row {row}, {places}"),
+            s,
+            31,
+            row,
+            room,
+        )?;
+    }
+    Ok(())
 }
 
-fn main() {
-    few_spins();
-    sites();
-    full_row(0);
-    full_row(4611686018427387903);
-    named(b"full, row past the last");
-    lent(full(), 31, 4611686018427387904, 324, 324, 324);
-    named(b"full, 30 spins");
-    lent(full(), 30, 0, 324, 324, 324);
+fn main(rt: HostRuntime) -> Result<(), Failure> {
+    few_spins(&rt)?;
+    sites(&rt)?;
+    let full = full()?;
+    full_row(&rt, full, 0)?;
+    full_row(&rt, full, 4611686018427387903)?;
+    let all = Room::each(PLACES);
+    lent(
+        &rt,
+        "full, row past the last",
+        full,
+        31,
+        4611686018427387904,
+        all,
+    )?;
+    lent(&rt, "full, 30 spins", full, 30, 0, all)?;
+    Ok(())
 }

@@ -1,7 +1,7 @@
 // The systems whose rows are run.
 use spins::{
-    Complex, DecoherenceProduct, Items, PauliHamiltonian, PauliLindbladNoiseOperator,
-    PauliLindbladOpenSystem, PauliProduct,
+    Alphabet, Complex, DecoherenceProduct, PauliHamiltonian, PauliLindbladNoiseOperator,
+    PauliLindbladOpenSystem, PauliProduct, Product, Refusal,
 };
 
 // The letter of a seed's product on a site: X or Y where the seed has the bit, else Z on each third site.
@@ -13,117 +13,85 @@ fn letter(seed: u8, site: u8) -> u8 {
 }
 
 // The product of a seed, on up to 31 sites. Products of different seeds flip different spins.
-fn seeded(seed: u8) -> Items {
-    let mut p = PauliProduct::new();
-    let mut site: u8 = 0;
-    while site < 31 {
-        let a = p.set_pauli(site, letter(seed, site));
-        p = a.product;
-        site += 1;
+fn seeded<K: Alphabet>(seed: u8) -> Result<Product<K>, Refusal> {
+    let mut p = Product::new();
+    for site in 0..31 {
+        p = p.set_pauli(site, letter(seed, site))?;
     }
-    p.items
-}
-
-// The product of one letter.
-fn single(site: u8, letter: u8) -> Items {
-    let a = PauliProduct::new().set_pauli(site, letter);
-    a.product.items
+    Ok(p)
 }
 
 // 64 terms with the coefficients 1 to 64.
-fn full_hamiltonian() -> PauliHamiltonian {
+fn full_hamiltonian() -> Result<PauliHamiltonian, Refusal> {
     let mut h = PauliHamiltonian::new();
-    let mut value = 1.0;
-    let mut i: u8 = 0;
-    while i < 64 {
-        let p = seeded(i + 1);
-        let a = h.set(PauliProduct { items: p }, value);
-        h = a.set;
-        value = value + 1.0;
-        i += 1;
+    for n in 1..65 {
+        h = h.set(seeded(n)?, f64::from(n)).set;
     }
-    h
+    Ok(h)
 }
 
 // 64 pairs with the coefficients 2 + 254i, 4 + 252i, to 128 + 128i.
-fn full_noise() -> PauliLindbladNoiseOperator {
-    let mut s = PauliLindbladNoiseOperator::new();
-    let mut value = 2.0;
-    let mut i: u8 = 0;
-    while i < 64 {
-        let p = seeded(255 - 2 * i);
-        let q = seeded(i + 1);
-        let z = Complex {
-            re: value,
-            im: 256.0 - value,
-        };
-        let a = s.set(
-            DecoherenceProduct { items: p },
-            DecoherenceProduct { items: q },
-            z,
-        );
-        s = a.operator;
-        value = value + 2.0;
-        i += 1;
+fn full_noise() -> Result<PauliLindbladNoiseOperator, Refusal> {
+    let mut noise = PauliLindbladNoiseOperator::new();
+    for i in 0..64 {
+        let re = f64::from(2 * (i + 1));
+        let im = 256.0 - re;
+        let (left, right) = (seeded(255 - 2 * i)?, seeded(i + 1)?);
+        noise = noise.set(left, right, Complex { re, im }).operator;
     }
-    s
-}
-
-// One pair with a coefficient.
-fn single_noise(left: Items, right: Items, value: Complex) -> PauliLindbladNoiseOperator {
-    let a = PauliLindbladNoiseOperator::new().set(
-        DecoherenceProduct { items: left },
-        DecoherenceProduct { items: right },
-        value,
-    );
-    a.operator
+    Ok(noise)
 }
 
 // As many terms as a system holds, and no two of the contributions to a row in one column.
-pub(crate) fn full() -> PauliLindbladOpenSystem {
-    let h = full_hamiltonian();
-    let s = full_noise();
-    PauliLindbladOpenSystem {
-        system: h,
-        noise: s,
-    }
+pub(crate) fn full() -> Result<PauliLindbladOpenSystem, Refusal> {
+    Ok(PauliLindbladOpenSystem {
+        system: full_hamiltonian()?,
+        noise: full_noise()?,
+    })
+}
+
+// The product of one letter.
+fn single<K: Alphabet>(site: u8, letter: u8) -> Result<Product<K>, Refusal> {
+    Product::new().set_pauli(site, letter)
+}
+
+// A Hamiltonian of one term.
+fn one_term(p: PauliProduct, value: f64) -> PauliHamiltonian {
+    PauliHamiltonian::new().set(p, value).set
+}
+
+// One pair with a real coefficient.
+fn one_pair(
+    left: DecoherenceProduct,
+    right: DecoherenceProduct,
+    value: f64,
+) -> PauliLindbladNoiseOperator {
+    let value = Complex { re: value, im: 0.0 };
+    PauliLindbladNoiseOperator::new()
+        .set(left, right, value)
+        .operator
 }
 
 // 3 times Z0, with the noise (X0, X0), 2.
-pub(crate) fn worked() -> PauliLindbladOpenSystem {
-    let z = single(0, 3);
-    let x = single(0, 1);
-    let a = PauliHamiltonian::new().set(PauliProduct { items: z }, 3.0);
-    let two = Complex { re: 2.0, im: 0.0 };
-    let h = a.set;
-    let s = single_noise(x, x, two);
-    PauliLindbladOpenSystem {
-        system: h,
-        noise: s,
-    }
+pub(crate) fn worked() -> Result<PauliLindbladOpenSystem, Refusal> {
+    Ok(PauliLindbladOpenSystem {
+        system: one_term(single(0, 3)?, 3.0),
+        noise: one_pair(single(0, 1)?, single(0, 1)?, 2.0),
+    })
 }
 
 // X on one site, without noise.
-pub(crate) fn at_site(site: u8) -> PauliLindbladOpenSystem {
-    let x = single(site, 1);
-    let a = PauliHamiltonian::new().set(PauliProduct { items: x }, 5.0);
-    let h = a.set;
-    let s = PauliLindbladNoiseOperator::new();
-    PauliLindbladOpenSystem {
-        system: h,
-        noise: s,
-    }
+pub(crate) fn at_site(site: u8) -> Result<PauliLindbladOpenSystem, Refusal> {
+    Ok(PauliLindbladOpenSystem {
+        system: one_term(single(site, 1)?, 5.0),
+        noise: PauliLindbladNoiseOperator::new(),
+    })
 }
 
 // The noise (X0, X) with its right side on a site, 6, without a Hamiltonian.
-pub(crate) fn noise_at_site(site: u8) -> PauliLindbladOpenSystem {
-    let x = single(0, 1);
-    let y = single(site, 1);
-    let six = Complex { re: 6.0, im: 0.0 };
-    let h = PauliHamiltonian::new();
-    let s = single_noise(x, y, six);
-    PauliLindbladOpenSystem {
-        system: h,
-        noise: s,
-    }
+pub(crate) fn noise_at_site(site: u8) -> Result<PauliLindbladOpenSystem, Refusal> {
+    Ok(PauliLindbladOpenSystem {
+        system: PauliHamiltonian::new(),
+        noise: one_pair(single(0, 1)?, single(site, 1)?, 6.0),
+    })
 }

@@ -2,23 +2,18 @@
 #![tactic(auto)]
 
 // Refusals and their numbers.
-pub use refusal::{Carried, Outcome, Refusal};
+pub use refusal::{Outcome, Refusal};
 
 // Complex numbers.
 pub use complex::Complex;
 
 // The letters of one site.
-pub use letters::{
-    HIGHEST_LETTER, LetterAnswer, single_decoherence_operator, single_pauli_operator,
-};
+pub use letters::alphabet::{Alphabet, DecoherenceLetters, PauliLetters};
+pub use letters::{HIGHEST_LETTER, Kind, Scaled};
 
 // Products of letters on sites.
-pub use items::{CAPACITY, Got, HIGHEST_SITE, Items, SITE_COUNT, Site};
-pub use ordering::Compared;
-pub use products::decoherence_product::{
-    DecoherenceAnswer, DecoherenceProduct, DecoherenceWithPower, ProductRow,
-};
-pub use products::pauli_product::{PauliAnswer, PauliProduct, PauliWithPower};
+pub use items::{CAPACITY, HIGHEST_SITE, Items, SITE_COUNT, Site};
+pub use products::{DecoherenceProduct, PauliProduct, Product, ProductEntry, WithPower};
 pub use row_entries::MOST_SPINS;
 
 // Sets of terms: operators and Hamiltonians.

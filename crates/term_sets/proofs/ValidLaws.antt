@@ -1,9 +1,12 @@
 -- Sets of terms with complex coefficients as a kind of valid set, for the laws over any kind; and what other laws cite of a valid one.
 -- Assumes nothing.
-use Prim.Native.Nat.{◌≤◌}
-use mathlib.Core.Path.{◌≡◌, refl, ap}
+use Prim.Native.Nat.{ℕ, ◌≤◌, ◌<◌}
+use native.Mathlib.Omega.{arith}
+use mathlib.Core.Path.{◌≡◌, refl, sym, ap, ◌∙◌}
 use mathlib.Core.Bool.{Bool, true, false, not, ◌&&◌}
 use mathlib.Core.List.{[]}
+use lib.ListN.{get_or}
+use lib.Seq.{get_or-take}
 use Rattle.letters.proofs.TestLaws.{and_true, and_left, and_right}
 use Rattle.complex.specs.Complex.{is_zero, in_range, is_plus_zero}
 use Rattle.complex.specs.declared.Complex.{Complex}
@@ -13,6 +16,7 @@ use Rattle.items.proofs.SameLaws.{same_self, same-equal}
 use Rattle.terms.specs.Keyed.{each}
 use Rattle.terms.specs.Setting.{most_terms}
 use Rattle.terms.specs.Places.{valid_places}
+use Rattle.terms.proofs.KeyedLaws.{each_at}
 use Rattle.terms.proofs.SettingLaws.{alike_by}
 use Rattle.terms.proofs.ValidSetLaws.{ValidSets}
 use Rattle.terms.proofs.ValidSetLaws as laws
@@ -80,6 +84,13 @@ module _ (zeros : Bool) (s : TermSet) (e : valid_set zeros s ≡ true) where
   -- the products of its terms are valid
   pub valid-products : each (λ t ts. valid t.items) (held_by s) ≡ true
   valid-products = laws.valid-keys (valid_term_sets zeros) s e
+
+  -- so is that of the one at a place, which code reads as `get_or s.terms i d`
+  pub product_valid : (i : ℕ) (d : Term) → i < s.count → valid (get_or s.terms i d).items ≡ true
+  product_valid i d h =
+      let long = (laws.valid-held (valid_term_sets zeros) s e).long in
+      ap (λ (t : Term). valid t.items) (sym (get_or-take s.count s.terms i d h))
+      ∙ each_at (λ t ts. valid t.items) (held_by s) i d (omega arith) valid-products
 
 -- the empty set is valid
 pub empty-valid : (zeros : Bool) → valid_set zeros (filled []) ≡ true

@@ -60,7 +60,7 @@ pub fn blank_term() -> Term
     ensures { result ≡ blank }
 {
     Term {
-        items: items::empty(),
+        items: Items::new(),
         coefficient: Complex { re: 0.0, im: 0.0 },
     }
 }
@@ -95,7 +95,7 @@ pub fn find(s: TermSet, key: Items) -> usize
     while i < n {
         let t = s.terms[i];
         let p = t.items;
-        if items::same(p, key) {
+        if p == key {
             return i;
         }
         i += 1;
@@ -150,7 +150,7 @@ pub fn get(zeros: bool, s: TermSet, key: Items) -> GetAnswer
     if !is_valid(zeros, s) {
         return GetAnswer::Refused(Refusal::Malformed);
     }
-    if !items::is_valid(key) {
+    if !key.is_valid() {
         return GetAnswer::Refused(Refusal::Malformed);
     }
     GetAnswer::Coefficient(coefficient_at(s, key))

@@ -16,7 +16,7 @@ fn is_blank(t: Term) -> bool
 {
     let p = t.items;
     let c = t.coefficient;
-    if items::is_empty(p) {
+    if p.is_empty() {
         if complex::is_plus_zero(c.re) {
             return complex::is_plus_zero(c.im);
         }
@@ -51,14 +51,12 @@ pub(crate) fn all_good(zeros: bool, s: TermSet) -> bool
         let t = s.terms[i];
         let p = t.items;
         let c = t.coefficient;
-        let v = items::judged(p);
-        if !v.valid {
+        let Some(x) = p.judged() else {
             return false;
-        }
+        };
         if !good_coefficient(zeros, c) {
             return false;
         }
-        let x = v.masks;
         if !is_new_marked(&marks, &masks, i, x) {
             return false;
         }

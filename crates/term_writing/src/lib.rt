@@ -95,7 +95,7 @@ pub fn set(zeros: bool, s: TermSet, key: Items, value: Complex) -> TermSetAfterS
             set: s,
         };
     }
-    if !items::is_valid(key) {
+    if !key.is_valid() {
         return TermSetAfterSet {
             answer: SetAnswer::Refused(Refusal::Malformed),
             set: s,
@@ -132,7 +132,7 @@ pub fn add(zeros: bool, s: TermSet, key: Items, value: Complex) -> TermSetAnswer
             set: s,
         };
     }
-    if !items::is_valid(key) {
+    if !key.is_valid() {
         return TermSetAnswer {
             outcome: Outcome::Refused(Refusal::Malformed),
             set: s,

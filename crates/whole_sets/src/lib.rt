@@ -8,28 +8,24 @@ ghost use Rattle.term_sets.specs.Complexes as complexes;
 ghost use Rattle.noise_sets.specs.Pairs as pairs;
 
 use complex::Complex;
-use complex::whole::{WholePart, whole_part};
+use complex::whole::whole_part;
 use noise_sets::NoiseSet;
 use term_sets::{TermSet, held_count};
 
 // The whole number that a part is, 0 where it is none.
+#[tactic(auto, unfolding(complex::specs::Wholes::parts_of))]
 pub fn parts_of(x: f64) -> i64
     ensures { result ≡ parts_of x }
 {
-    match whole_part(x) {
-        WholePart::Parts(z) => z,
-        WholePart::NotWhole => 0,
-    }
+    whole_part(x).unwrap_or(0)
 }
 
 // Whether a part is whole.
+#[tactic(auto, unfolding(complex::specs::Wholes::is_whole))]
 fn is_whole(x: f64) -> bool
     ensures { result ≡ is_whole x }
 {
-    match whole_part(x) {
-        WholePart::Parts(_) => true,
-        WholePart::NotWhole => false,
-    }
+    whole_part(x).is_some()
 }
 
 // Whether both parts of a coefficient are.

@@ -5,14 +5,11 @@
 mod report;
 mod system;
 
-use report::{print_header, print_row};
-use system::worked;
+use std::io;
 
-fn main() {
-    let s = worked();
-    print_header(s);
-    print_row(s, 0);
-    print_row(s, 1);
-    print_row(s, 2);
-    print_row(s, 3);
+fn main(rt: HostRuntime) -> io::Result<()> {
+    match system::worked() {
+        Ok(s) => report::print_rows(&rt, s),
+        Err(why) => println!(rt; "refused under number {}", why.number()),
+    }
 }

@@ -1,7 +1,7 @@
 // The system whose rows are printed, made by the entries that callers have.
 use spins::{
     Complex, DecoherenceProduct, PauliHamiltonian, PauliLindbladNoiseOperator,
-    PauliLindbladOpenSystem, PauliProduct,
+    PauliLindbladOpenSystem, PauliProduct, Refusal,
 };
 
 // The letter codes.
@@ -10,21 +10,18 @@ const X: u8 = 1;
 const Z: u8 = 3;
 
 // 3 Z0.
-fn hamiltonian() -> PauliHamiltonian {
-    let z = PauliProduct::new().set_pauli(0, Z);
-    let a = PauliHamiltonian::new().set(z.product, 3.0);
-    a.set
+fn hamiltonian() -> Result<PauliHamiltonian, Refusal> {
+    let z0 = PauliProduct::new().set_pauli(0, Z)?;
+    Ok(PauliHamiltonian::new().set(z0, 3.0).set)
 }
 
 // (X0, X0), 2.
-fn noise() -> PauliLindbladNoiseOperator {
-    let x = DecoherenceProduct::new().set_pauli(0, X);
-    let two = Complex { re: 2.0, im: 0.0 };
-    let a = PauliLindbladNoiseOperator::new().set(x.product, x.product, two);
-    a.operator
+fn noise() -> Result<PauliLindbladNoiseOperator, Refusal> {
+    let x0 = DecoherenceProduct::new().set_pauli(0, X)?;
+    let rate = Complex { re: 2.0, im: 0.0 };
+    Ok(PauliLindbladNoiseOperator::new().set(x0, x0, rate).operator)
 }
 
-pub(crate) fn worked() -> PauliLindbladOpenSystem {
-    let a = PauliLindbladOpenSystem::group(hamiltonian(), noise());
-    a.system
+pub(crate) fn worked() -> Result<PauliLindbladOpenSystem, Refusal> {
+    Ok(PauliLindbladOpenSystem::group(hamiltonian()?, noise()?).system)
 }

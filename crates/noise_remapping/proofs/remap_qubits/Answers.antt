@@ -8,7 +8,7 @@ use mathlib.Core.List.{List, [], ◌∷◌}
 use lib.Ieee.{nan}
 use lib.ListN.{get_or}
 use borrow.Author.Rules.{rules}
-use Rattle.refusal.specs.Refusals.{Said, gives}
+use Rattle.refusal.specs.Refusals.{Said, gives, said_by}
 use Rattle.complex.specs.Complex.{in_range, is_zero}
 use Rattle.items.specs.Lists.{at}
 use Rattle.items.specs.declared.Items.{Items}
@@ -28,9 +28,9 @@ use Rattle.noise_sets.proofs.SetLaws.{noise_sets}
 use Rattle.noise_sets.proofs.ValidLaws.{valid_noise_sets, valid-count}
 use Rattle.noise_remapping.specs.RemapAnswers.{remap_step, remap_set}
 use Rattle.noise_writing.specs.Numbers.{pair_number}
-use Rattle.noise_remapping.proofs.MoveLaws.{wanted, left_refused, right_refused, both_moved}
+use Rattle.noise_remapping.proofs.remap_qubits.Invariants.{wanted}
 use Rattle.noise_remapping.proofs.remap_qubits.Goals as goal
-use Rattle.noise_remapping.proofs.remap_qubits.Goals.{Else-not-is_valid, In-loop-i, In_default-second, Joined-at-n, Joined-at-n-2, After-sum-sum, Then-is_zero, Else-is_zero, After-loop-i, then-at-n+else-not-has_key, then-at-n+then-not-has_key, then-at-n-2, else-at-n, else-at-n-2}
+use Rattle.noise_remapping.proofs.remap_qubits.Goals.{Else-not-is_valid, In-loop-i, In-Ok, Joined-at-n, Joined-at-n-2, After-sum-sum, Then-is_zero, Else-is_zero, After-loop-i, then-at-n+else-not-has_key, then-at-n+then-not-has_key, then-at-n-2, else-at-n, else-at-n-2}
 
 -- the test passed
 set_valid : (c : Else-not-is_valid) → valid_set c.args.s ≡ true
@@ -58,13 +58,11 @@ next : (c : In-loop-i) (step : Said NoiseTerm) → remap_step (at c.args.targets
 next c step e = adding_same pair_terms noise_sets pair_number _ (ap (λ (s : Said NoiseTerm). s ∷ rest c) e) (along_next pair_terms noise_sets pair_number _ _ _ _ c.loop-i.invariant _ c.loop-i-test.true)
 
 -- both products are moved: the key, and the term to add
-abbrev key : (c : In_default-second) → Key
-key c = (c.remap_qubits-left.result.items, c.remap_qubits-right.result.items)
+abbrev key : (c : In-Ok) → Key
+key c = (c.in-Ok.y.left, c.in-Ok.y.right)
 
-term-next : (c : In_default-second) → Before c.before.before.before.before.before.before.before.before (gives (pair_of (key c) (this c.before.before.before.before.before.before.before.before).coefficient))
-term-next c =
-    next c.before.before.before.before.before.before.before.before _
-    (both_moved _ _ c.remap_qubits-left.result c.remap_qubits-right.result c.remap_qubits-left.ensures c.in_default.is c.remap_qubits-right.ensures c.in_default-second.is)
+term-next : (c : In-Ok) → Before c.before.before.before.before.before (gives (pair_of (key c) c.in-Ok.y.coefficient))
+term-next c = next c.before.before.before.before.before _ (sym c.moved.ensures ∙ ap (said_by (λ t. t)) c.in-Ok.is)
 
 -- its key's place, found by its number or by itself
 place : (c : Joined-at-n) → c.if-at-n.at ≡ first_at (keyed pair_terms (key c.before.before.before.before.before.before)) (held_by c.loop-i.out)
@@ -88,8 +86,8 @@ coefficient c =
     ]
 
 -- and the sum
-summed : (c : After-sum-sum) → c.sum-sum.result ≡ added pair_terms (key c.before.before.before.before.before.before.before.before) (this c.before.before.before.before.before.before.before.before.before.before.before.before.before.before.before.before).coefficient (held_by c.loop-i.out)
-summed c = adding_sum pair_terms noise_sets pair_number _ valid_noise_sets.alike _ (term-next c.before.before.before.before.before.before.before.before) (coefficient c.before) c.sum-sum.ensures
+summed : (c : After-sum-sum) → c.sum-sum.result ≡ added pair_terms (key c.before.before.before.before.before.before.before.before.before) c.in-Ok.y.coefficient (held_by c.loop-i.out)
+summed c = adding_sum pair_terms noise_sets pair_number _ valid_noise_sets.alike _ (term-next c.before.before.before.before.before.before.before.before.before) (coefficient c.before.before) c.sum-sum.ensures
 
 -- where it is zero, and where it is not
 is-zero : (c : Then-is_zero) → is_zero c.sum-sum.result ≡ true
@@ -126,20 +124,12 @@ pub bounds-s-i : goal.bounds-s-i
 bounds-s-i c = omega (arith, valid-count _ (set_valid c.before.before.before))
 
 pub overflow_add-i : goal.overflow_add-i
-overflow_add-i c = omega (arith, valid-count _ (set_valid c.before.before.before.before.before.before.before))
+overflow_add-i c = omega (arith, valid-count _ (set_valid c.before.before.before.before))
 
-pub returns-in-Refused : goal.returns-in-Refused
+pub returns-in-Err : goal.returns-in-Err
 unfolding remap_set
-returns-in-Refused c =
-    rw (set_valid c.before.before.before.before.before.before.before.before.before) (ended_refused pair_terms in_range filled _ (adding_refused pair_terms noise_sets pair_number _ (next c.before.before.before.before.before.before _ (left_refused _ _ c.remap_qubits-left.result c.remap_qubits-left.ensures c.in-Refused.is))))
-
-pub returns-in-Refused-second : goal.returns-in-Refused-second
-unfolding remap_set
-returns-in-Refused-second c =
-    rw (set_valid c.before.before.before.before.before.before.before.before.before.before.before)
-    (ended_refused pair_terms in_range filled _
-    (adding_refused pair_terms noise_sets pair_number _
-    (next c.before.before.before.before.before.before.before.before _ (right_refused _ _ c.remap_qubits-left.result c.remap_qubits-right.result c.remap_qubits-left.ensures c.in_default.is c.remap_qubits-right.ensures c.in-Refused-second.is))))
+returns-in-Err c =
+    rw (set_valid c.before.before.before.before.before.before.before.before) (ended_refused pair_terms in_range filled _ (adding_refused pair_terms noise_sets pair_number _ (next c.before.before.before.before.before _ (sym c.moved.ensures ∙ ap (said_by (λ t. t)) c.in-Err.is))))
 
 pub offset_bounds-out-at : goal.offset_bounds-out-at
 offset_bounds-out-at c = omega (arith, c.loop-i.invariant.adding.held.few)
@@ -158,9 +148,9 @@ loop-i-smaller-then-at-n-3 c = omega (arith, c.loop-i-test.true)
 
 pub loop-i-preserved-then-at-n-3 : goal.loop-i-preserved-then-at-n-3
 loop-i-preserved-then-at-n-3 c =
-    let before = term-next c.before.before.before.before.before.before.before.before.before.before.before.before.before in
+    let before = term-next c.before.before.before.before.before.before.before.before.before.before.before.before.before.before in
     along_more pair_terms noise_sets pair_number _ _ _ _ c.loop-i.invariant c.loop-i-test.true
-    (adding_struck pair_terms noise_sets pair_number _ valid_noise_sets.alike _ before _ (place c.before.before.before.before.before.before.before) _ (summed c.before.before.before.before.before) c.if-at-n-3.true (is-zero c.before.before.before) _ (struck_own noise_sets _ _ c.without-out.ensures before.held c.if-at-n-3.true) _
+    (adding_struck pair_terms noise_sets pair_number _ valid_noise_sets.alike _ before _ (place c.before.before.before.before.before.before.before.before) _ (summed c.before.before.before.before.before) c.if-at-n-3.true (is-zero c.before.before.before) _ (struck_own noise_sets _ _ c.without-out.ensures before.held c.if-at-n-3.true) _
     (closed_long _ _ _ before.long before.held.few c.if-at-n-3.true c.close_up-numbers.ensures)
     (closed_take _ _ _ before.long before.held.few c.if-at-n-3.true c.close_up-numbers.ensures))
 
@@ -170,12 +160,12 @@ loop-i-smaller-else-at-n-3 c = omega arith
 pub loop-i-preserved-else-at-n-3 : goal.loop-i-preserved-else-at-n-3
 loop-i-preserved-else-at-n-3 c =
     along_more pair_terms noise_sets pair_number _ _ _ _ c.loop-i.invariant c.loop-i-test.true
-    (adding_free pair_terms noise_sets pair_number _ valid_noise_sets.alike _ (term-next c.before.before.before.before.before.before.before.before.before.before.before) _ (place c.before.before.before.before.before) _ (summed c.before.before.before) c.if-at-n-3.false (is-zero c.before))
+    (adding_free pair_terms noise_sets pair_number _ valid_noise_sets.alike _ (term-next c.before.before.before.before.before.before.before.before.before.before.before.before) _ (place c.before.before.before.before.before.before) _ (summed c.before.before.before) c.if-at-n-3.false (is-zero c.before))
 
 pub returns-then-at-ge-MOST_TERMS : goal.returns-then-at-ge-MOST_TERMS
 unfolding remap_set
 returns-then-at-ge-MOST_TERMS c =
-    rw (set_valid c.before.before.before.before.before.before.before.before.before.before.before.before.before.before.before.before.before.before.before.before.before.before) (ended_refused pair_terms in_range filled _ (adding_full pair_terms noise_sets pair_number _ valid_noise_sets.alike _ (term-next c.before.before.before.before.before.before.before.before.before.before.before) _ (place c.before.before.before.before.before) _ (summed c.before.before.before) c.if-at-ge-MOST_TERMS.true (is-other c.before)))
+    rw (set_valid c.before.before.before.before.before.before.before.before.before.before.before.before.before.before.before.before.before.before.before.before) (ended_refused pair_terms in_range filled _ (adding_full pair_terms noise_sets pair_number _ valid_noise_sets.alike _ (term-next c.before.before.before.before.before.before.before.before.before.before.before.before) _ (place c.before.before.before.before.before.before) _ (summed c.before.before.before) c.if-at-ge-MOST_TERMS.true (is-other c.before)))
 
 pub offset_bounds-out-at-in-loop-i : goal.offset_bounds-out-at-in-loop-i
 offset_bounds-out-at-in-loop-i c = omega arith
@@ -198,7 +188,7 @@ loop-i-smaller-then-n-at c = omega arith
 pub loop-i-preserved-then-n-at : goal.loop-i-preserved-then-n-at
 loop-i-preserved-then-n-at c =
     along_more pair_terms noise_sets pair_number _ _ _ _ c.loop-i.invariant c.loop-i-test.true
-    (adding_last pair_terms noise_sets pair_number _ valid_noise_sets.alike _ (term-next c.before.before.before.before.before.before.before.before.before.before.before.before.before) _ (place c.before.before.before.before.before.before.before) _ (summed c.before.before.before.before.before) c.if-n-at.true c.if-at-ge-MOST_TERMS.false (is-other c.before.before.before) _ c.number_of-number.ensures)
+    (adding_last pair_terms noise_sets pair_number _ valid_noise_sets.alike _ (term-next c.before.before.before.before.before.before.before.before.before.before.before.before.before.before) _ (place c.before.before.before.before.before.before.before.before) _ (summed c.before.before.before.before.before) c.if-n-at.true c.if-at-ge-MOST_TERMS.false (is-other c.before.before.before) _ c.number_of-number.ensures)
 
 pub loop-i-smaller : goal.loop-i-smaller
 loop-i-smaller c = omega arith
@@ -206,7 +196,7 @@ loop-i-smaller c = omega arith
 pub loop-i-preserved : goal.loop-i-preserved
 loop-i-preserved c =
     along_more pair_terms noise_sets pair_number _ _ _ _ c.loop-i.invariant c.loop-i-test.true
-    (adding_replaced pair_terms noise_sets pair_number _ valid_noise_sets.alike _ (term-next c.before.before.before.before.before.before.before.before.before.before.before.before.before) _ (place c.before.before.before.before.before.before.before) _ (summed c.before.before.before.before.before) c.if-n-at.false (is-other c.before.before.before) _ c.number_of-number.ensures)
+    (adding_replaced pair_terms noise_sets pair_number _ valid_noise_sets.alike _ (term-next c.before.before.before.before.before.before.before.before.before.before.before.before.before.before) _ (place c.before.before.before.before.before.before.before.before) _ (summed c.before.before.before.before.before) c.if-n-at.false (is-other c.before.before.before) _ c.number_of-number.ensures)
 
 pub returns-then-not-all_in_range : goal.returns-then-not-all_in_range
 unfolding remap_set

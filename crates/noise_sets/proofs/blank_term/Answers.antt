@@ -2,4 +2,4 @@
 use Rattle.noise_sets.proofs.blank_term.Goals as goal
 
 pub returns : goal.returns
-returns c = rw (c.empty.ensures, c.empty-2.ensures)
+returns c = rw (c.new.ensures, c.new-2.ensures)

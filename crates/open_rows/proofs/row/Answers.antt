@@ -3,7 +3,7 @@
 use mathlib.Core.Path.{◌≡◌, refl, sym, ap, ◌∙◌}
 use mathlib.Core.List.{[]}
 use borrow.Author.Tests.{not-true, not-false}
-use Rattle.refusal.specs.Refusals.{carried}
+use Rattle.refusal.specs.Refusals.{listed}
 use Rattle.rows.specs.Calls.{outside}
 use Rattle.rows.proofs.CallLaws.{call_spins, call_range, call_outside, call_row}
 use Rattle.term_sets.proofs.SetLaws.{held-from}
@@ -46,12 +46,12 @@ system_fits-requires c =
     let n = c.masked-n.ensures in
     (real_few _ h (sym (real_judged _ h) ∙ not-false _ c.if-not-h.false), pairs-few _ n (sym (pairs_judged _ n) ∙ not-false _ c.if-not-n.false), c.if-spins-gt-MOST_SPINS.false)
 
-pub returns-in-Site : goal.returns-in-Site
+pub returns-in-Some : goal.returns-in-Some
 unfolding system_row_of
-returns-in-Site c =
+returns-in-Some c =
     let v = sym (real_judged _ c.masked-h.ensures) ∙ not-false _ c.if-not-h.false in
     let w = sym (pairs_judged _ c.masked-n.ensures) ∙ not-false _ c.if-not-n.false in
-    let site = ap carried (sym c.in-Site.is) ∙ c.outside_site.ensures in
+    let site = ap listed (sym c.in-Some.is) ∙ c.outside_site.ensures in
     system_valid c.args.s _ _ v w _ (held-from _ _ c.complex_terms.ensures)
     (call_outside _ _ _ _ _ c.if-spins-gt-MOST_SPINS.false (square_few _ c.if-spins-gt-MOST_SPINS.false c.superoperator_size.ensures) c.if-superoperator_size-row.false site)
 
@@ -77,7 +77,7 @@ returns c =
     let none : [] ≡ outside c.args.spins (system_items t l) =
     elim c.if-not-system_fits.branch [
       | then-not-system_fits+in_default z ↦
-          ap carried (sym z.in_default.is) ∙ z.outside_site.ensures ∙ ap (λ u. outside c.args.spins (system_items u l)) (held-from _ _ z.complex_terms.ensures)
+          ap listed (sym z.in_default.is) ∙ z.outside_site.ensures ∙ ap (λ u. outside c.args.spins (system_items u l)) (held-from _ _ z.complex_terms.ensures)
       | else-not-system_fits z ↦
           sym (c.system_fits.ensures z.if-not-system_fits.false t l (hamiltonian-valid _ v) (noise-valid _ w) p.count p.products q.count q.left_products q.right_products)
     ]

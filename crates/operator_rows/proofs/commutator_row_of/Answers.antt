@@ -1,6 +1,6 @@
 -- Each refusal by the tests on the way; terms that fit are delivered.
 use mathlib.Core.Path.{sym, ap, ◌∙◌}
-use Rattle.refusal.specs.Refusals.{carried}
+use Rattle.refusal.specs.Refusals.{listed}
 use Rattle.rows.proofs.CallLaws.{call_spins, call_range, call_outside, call_row}
 use Rattle.operator_rows.specs.OperatorRows.{commutator_row_of}
 use Rattle.row_entries.proofs.EntryLaws.{square_few}
@@ -20,19 +20,19 @@ returns-then-superoperator_size-row c =
 pub deliver_commutator-requires : goal.deliver_commutator-requires
 deliver_commutator-requires c =
     let few = c.if-spins-gt-MOST_SPINS.false in
-    let none = ap carried (sym c.in-Nothing.is) ∙ c.of_operator.ensures in
+    let none = ap listed (sym c.in-None.is) ∙ c.of_operator.ensures in
     accepted _ c.requires few (square_few _ few c.superoperator_size.ensures) c.if-superoperator_size-row.false none
 
-pub returns-in-Site : goal.returns-in-Site
+pub returns-in-Some : goal.returns-in-Some
 unfolding commutator_row_of
-returns-in-Site c =
+returns-in-Some c =
     let few = c.if-spins-gt-MOST_SPINS.false in
-    let site = ap carried (sym c.in-Site.is) ∙ c.of_operator.ensures in
+    let site = ap listed (sym c.in-Some.is) ∙ c.of_operator.ensures in
     call_outside _ _ _ _ _ few (square_few _ few c.superoperator_size.ensures) c.if-superoperator_size-row.false site
 
-pub returns-in-Nothing : goal.returns-in-Nothing
+pub returns-in-None : goal.returns-in-None
 unfolding commutator_row_of
-returns-in-Nothing c =
+returns-in-None c =
     let few = c.if-spins-gt-MOST_SPINS.false in
-    let none = ap carried (sym c.in-Nothing.is) ∙ c.of_operator.ensures in
+    let none = ap listed (sym c.in-None.is) ∙ c.of_operator.ensures in
     call_row _ _ _ _ _ few (square_few _ few c.superoperator_size.ensures) c.if-superoperator_size-row.false none c.deliver_commutator.ensures

@@ -18,11 +18,11 @@ bounds-s-i c = omega arith
 
 pub returns-then-spins-left : goal.returns-then-spins-left
 returns-then-spins-left c =
-    left_found c.loop-i.invariant _ c.loop-i-test.true c.reach_of-left.ensures c.if-spins-left.true
+    left_found c.loop-i.invariant _ c.loop-i-test.true c.reach-left.ensures c.if-spins-left.true
 
 pub returns-then-spins-right : goal.returns-then-spins-right
 returns-then-spins-right c =
-    right_found c.loop-i.invariant _ c.loop-i-test.true c.reach_of-left.ensures c.if-spins-left.false c.reach_of-right.ensures c.if-spins-right.true
+    right_found c.loop-i.invariant _ c.loop-i-test.true c.reach-left.ensures c.if-spins-left.false c.reach-right.ensures c.if-spins-right.true
 
 pub overflow_add-i : goal.overflow_add-i
 overflow_add-i c = omega arith
@@ -32,7 +32,7 @@ loop-i-smaller c = omega arith
 
 pub loop-i-preserved : goal.loop-i-preserved
 loop-i-preserved c =
-    sides_more c.loop-i.invariant _ c.loop-i-test.true c.reach_of-left.ensures c.if-spins-left.false c.reach_of-right.ensures c.if-spins-right.false
+    sides_more c.loop-i.invariant _ c.loop-i-test.true c.reach-left.ensures c.if-spins-left.false c.reach-right.ensures c.if-spins-right.false
 
 pub returns : goal.returns
 returns c = sides-done c.loop-i.invariant c.loop-i-test.false

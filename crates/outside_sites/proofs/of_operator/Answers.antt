@@ -18,7 +18,7 @@ bounds-s-i c = omega arith
 
 pub returns-then-spins-reach : goal.returns-then-spins-reach
 returns-then-spins-reach c =
-    product_found c.loop-i.invariant _ c.loop-i-test.true c.reach_of-reach.ensures c.if-spins-reach.true
+    product_found c.loop-i.invariant _ c.loop-i-test.true c.reach-reach.ensures c.if-spins-reach.true
 
 pub overflow_add-i : goal.overflow_add-i
 overflow_add-i c = omega arith
@@ -28,7 +28,7 @@ loop-i-smaller c = omega arith
 
 pub loop-i-preserved : goal.loop-i-preserved
 loop-i-preserved c =
-    product_more c.loop-i.invariant _ c.loop-i-test.true c.reach_of-reach.ensures c.if-spins-reach.false
+    product_more c.loop-i.invariant _ c.loop-i-test.true c.reach-reach.ensures c.if-spins-reach.false
 
 pub returns : goal.returns
 returns c = product-done c.loop-i.invariant c.loop-i-test.false

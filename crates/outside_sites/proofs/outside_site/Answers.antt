@@ -1,15 +1,13 @@
--- The Hamiltonian's site, or the noise's where it has none (`outside_found`, `outside_past`).
-use mathlib.Core.Path.{sym, ap, ◌∙◌}
-use Rattle.refusal.specs.Refusals.{carried}
-use Rattle.outside_sites.proofs.OutsideLaws.{outside_found, outside_past}
+-- The Hamiltonian's site, or the noise's where it has none (`outside_either`).
+use native.Mathlib.Omega.{arith}
+use Rattle.std.proofs.lemmas.Grind.{common_steps}
+use Rattle.std.proofs.lemmas.Option.{MatchOption-at_some}
+use Rattle.term_sets.specs.Complexes.{items_of, held_by}
+use Rattle.noise_sets.specs.Pairs as noise
+use Rattle.outside_sites.proofs.OutsideLaws.{outside_either}
 use Rattle.outside_sites.proofs.outside_site.Goals as goal
 
-pub returns-in-Site : goal.returns-in-Site
-returns-in-Site c =
-    let site = ap carried (sym c.in-Site.is) ∙ c.of_operator.ensures in
-    sym (outside_found _ _ _ (sym site))
-
-pub returns-in-Nothing : goal.returns-in-Nothing
-returns-in-Nothing c =
-    let none = ap carried (sym c.in-Nothing.is) ∙ c.of_operator.ensures in
-    c.of_noise.ensures ∙ sym (outside_past _ _ _ (sym none))
+pub returns : goal.returns
+returns c =
+    outside_either c.args.spins (items_of (held_by c.args.h)) (noise.sides_of (noise.held_by c.args.n)) c.of_operator.result c.or_else.result c.of_operator.ensures
+    (λ e. grind (arith, common_steps)) (λ s e. MatchOption-at_some _ _ s e c.or_else.ensures)

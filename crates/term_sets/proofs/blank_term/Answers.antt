@@ -2,4 +2,4 @@
 use Rattle.term_sets.proofs.blank_term.Goals as goal
 
 pub returns : goal.returns
-returns c = rw c.empty.ensures
+returns c = rw c.new.ensures

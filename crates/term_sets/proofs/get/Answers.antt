@@ -21,8 +21,8 @@ returns-then-not-is_valid c = rw (sym c.is_valid.ensures ∙ c.if-not-is_valid.t
 
 pub returns-then-not-is_valid-2 : goal.returns-then-not-is_valid-2
 unfolding get_term
-returns-then-not-is_valid-2 c = rw (set_valid c.before.before, sym c.is_valid-2.ensures ∙ c.if-not-is_valid-2.true)
+returns-then-not-is_valid-2 c = rw (set_valid c.before.before.before, sym c.is_valid-2.ensures ∙ c.if-not-is_valid-2.true)
 
 pub returns : goal.returns
 unfolding get_term
-returns c = rw (set_valid c.before.before.before, key-valid c.before) (ap gives c.coefficient_at.ensures)
+returns c = rw (set_valid c.before.before.before.before, key-valid c.before) (ap gives c.coefficient_at.ensures)

@@ -13,10 +13,10 @@ use Rattle.terms.proofs.KeyedLaws.{all_map}
 use Rattle.terms.proofs.SettingLaws.{different}
 use Rattle.terms.proofs.ValidSetLaws as laws
 use Rattle.term_sets.specs.Complexes.{complex_terms, held_by, filled, valid_set}
-use Rattle.term_sets.proofs.ValidLaws.{valid_term_sets, valid-count, valid_own}
+use Rattle.term_sets.proofs.ValidLaws.{valid_term_sets, valid-count, valid_own, product_valid}
 use Rattle.chains.specs.ChainAnswers.{convert_set}
 use Rattle.chains.proofs.ValidAnswers.{HasValid, held_products}
-use Rattle.chains.proofs.PassLaws.{mapped_none, mapped_more, mapped_set, different_mapped, collected_asks, collected_says, convert_term, convert-term}
+use Rattle.chains.proofs.PassLaws.{mapped_none, mapped_more, mapped_set, different_mapped, collected_asks, collected_says, convert_term, convert_given, convert-term}
 use Rattle.chains.proofs.chain.convert.Goals.{After-loop-i, Else-not-is_valid}
 use Rattle.chains.proofs.chain.convert.Goals as goal
 
@@ -48,6 +48,9 @@ offset_bounds-s-i c = omega (arith, c.loop-i.invariant.1.few)
 pub bounds-s-i : goal.bounds-s-i
 bounds-s-i c = omega (arith, c.loop-i.invariant.1.few)
 
+pub unwrap-z-requires : goal.unwrap-z-requires
+unwrap-z-requires c = convert_given _ _ _ c.convert.result c.convert.ensures (product_valid _ _ (set_valid c.before.before.before.before.before.before) _ _ c.loop-i-test.true)
+
 pub offset_bounds-out-i : goal.offset_bounds-out-i
 offset_bounds-out-i c = omega (arith, c.loop-i.invariant.1.few)
 
@@ -62,7 +65,7 @@ loop-i-smaller c = omega arith
 
 pub loop-i-preserved : goal.loop-i-preserved
 loop-i-preserved c =
-    (c.loop-i.invariant.0, mapped_more c.loop-i.invariant.1 c.loop-i-test.true _ _ (convert-term _ _ _ c.convert-z.result _ _ c.convert-z.ensures c.unit_of_i.ensures c.product.ensures))
+    (c.loop-i.invariant.0, mapped_more c.loop-i.invariant.1 c.loop-i-test.true _ _ (convert-term _ _ _ c.convert.result _ _ c.convert.ensures c.unwrap-z.ensures c.unit_of_i.ensures c.product.ensures))
 
 pub collected-requires : goal.collected-requires
 collected-requires c = collected_asks _ _ (changed c.before) (keys-differ c.before.before.before)

@@ -6,11 +6,12 @@ use mathlib.Core.Path.{◌≡◌, sym, ap, ◌∙◌}
 use mathlib.Core.Bool.{true, false}
 use mathlib.Core.List.{List, [], ◌∷◌}
 use borrow.Author.Rules.{rules}
+use borrow.Author.Tests.{not-false}
 use Rattle.refusal.specs.Refusals.{Said, gives}
 use Rattle.complex.specs.Complex.{in_range, is_zero}
 use Rattle.letters.specs.Matrices.{letters_of}
 use Rattle.items.specs.Masks.{masks_of}
-use Rattle.items.proofs.SameLaws.{same-equal}
+use Rattle.items.proofs.SameLaws.{same-equal, items_eq}
 use Rattle.terms.specs.Keyed.{first_at}
 use Rattle.terms.specs.Setting.{keyed, coefficient_at, added, add_all}
 use Rattle.terms.proofs.SettingLaws.{Held}
@@ -26,7 +27,7 @@ use Rattle.term_sets.proofs.ValidLaws.{valid_term_sets}
 use Rattle.term_writing.proofs.NumberLaws.{closed_take, closed_long}
 use Rattle.chains.proofs.ProductLaws.{product_pair, product_refused, product-given, products_rows}
 use Rattle.chains.proofs.chain.multiplied.Goals.{After-loop-left, After-product-value, After-sum-sum, Else-is_zero, In-loop-right, Joined-at-n, Joined-at-n-2, Start, Then-is_zero}
-use Rattle.chains.proofs.chain.multiplied.Goals.{then-at-n+then-not-same, then-at-n+else-not-same, else-at-n, then-at-n-2, else-at-n-2}
+use Rattle.chains.proofs.chain.multiplied.Goals.{then-at-n+then-ne, then-at-n+else-ne, else-at-n, then-at-n-2, else-at-n-2}
 use Rattle.chains.proofs.chain.multiplied.Goals as goal
 use Rattle.chains.proofs.chain.multiplied.Invariants.{wanted}
 
@@ -48,39 +49,39 @@ Before c step = Adding complex_terms term_sets masks_of (wanted c.args.kind c.ar
 
 -- the pair at hand gives a term
 abbrev new : (c : After-product-value) → Term
-new c = term_of c.multiply-z.result.items c.product-value.result
+new c = term_of c.in-Ok.z.items c.product-value.result
 
-term-next : (c : After-product-value) → Before c.before.before.before.before.before.before.before.before.before (gives (new c))
+term-next : (c : After-product-value) → Before c.before.before.before.before.before.before.before.before.before.before.before (gives (new c))
 term-next c =
     adding_same complex_terms term_sets masks_of _
-    (ap (λ (s : Said Term). s ∷ rest c.before.before.before.before.before.before.before.before.before) (product-given _ _ _ c.multiply-z.result c.multiply-z.ensures c.in_default.is _ _ _ c.unit_of_i.ensures c.product.ensures c.product-value.ensures))
+    (ap (λ (s : Said Term). s ∷ rest c.before.before.before.before.before.before.before.before.before.before.before) (product-given _ _ _ c.multiply.result c.multiply.ensures c.in-Ok.is _ _ _ c.unit_of_i.ensures c.product.ensures c.product-value.ensures))
     (inner_next complex_terms term_sets masks_of _ _ _ _ _ _ c.loop-right.invariant _ c.loop-right-test.true)
 
 -- its key's place, found by its number or by itself
-place : (c : Joined-at-n) → c.if-at-n.at ≡ first_at (keyed complex_terms c.multiply-z.result.items) (held_by c.loop-right.out)
+place : (c : Joined-at-n) → c.if-at-n.at ≡ first_at (keyed complex_terms c.in-Ok.z.items) (held_by c.loop-right.out)
 place c =
     let near = c.place_of-at.ensures in
     let number = c.masks-number.ensures in
-    let before = term-next c.before.before.before.before in
+    let before = term-next c.before.before.before.before.before in
     elim c.if-at-n.branch [
-      | then-at-n+then-not-same w ↦ w.at-is ∙ w.find-at.ensures
-      | then-at-n+else-not-same w ↦
-          w.at-is ∙ adding_found complex_terms term_sets masks_of _ (valid_term_sets true).alike _ before same-equal _ number _ near _ w.if-at-n.true (sym w.same.ensures ∙ w.if-not-same.false)
+      | then-at-n+then-ne w ↦ w.at-is ∙ w.find-at.ensures
+      | then-at-n+else-ne w ↦
+          w.at-is ∙ adding_found complex_terms term_sets masks_of _ (valid_term_sets true).alike _ before same-equal _ number _ near _ w.if-at-n.true (sym (items_eq _ _) ∙ not-false _ (sym w.ne.ensures ∙ w.if-ne.false))
       | else-at-n w ↦ w.at-is ∙ adding_absent complex_terms term_sets masks_of _ (valid_term_sets true).alike _ before same-equal _ number _ near w.if-at-n.false
     ]
 
 -- the coefficient that is there, zero where there is none
-coefficient : (c : Joined-at-n-2) → c.if-at-n-2.old ≡ coefficient_at complex_terms c.multiply-z.result.items (held_by c.loop-right.out)
+coefficient : (c : Joined-at-n-2) → c.if-at-n-2.old ≡ coefficient_at complex_terms c.in-Ok.z.items (held_by c.loop-right.out)
 coefficient c =
-    let before = term-next c.before.before.before.before.before in
+    let before = term-next c.before.before.before.before.before.before in
     elim c.if-at-n-2.branch [
       | then-at-n-2 w ↦ w.old-is ∙ adding_old complex_terms term_sets masks_of _ (valid_term_sets true).alike _ before _ (place c.before) _ w.if-at-n-2.true
       | else-at-n-2 w ↦ w.old-is ∙ adding_new complex_terms term_sets masks_of _ (valid_term_sets true).alike _ before _ (place c.before) w.if-at-n-2.false
     ]
 
 -- and the sum
-summed : (c : After-sum-sum) → c.sum-sum.result ≡ added complex_terms c.multiply-z.result.items c.product-value.result (held_by c.loop-right.out)
-summed c = adding_sum complex_terms term_sets masks_of _ (valid_term_sets true).alike _ (term-next c.before.before.before.before.before.before) (coefficient c.before) c.sum-sum.ensures
+summed : (c : After-sum-sum) → c.sum-sum.result ≡ added complex_terms c.in-Ok.z.items c.product-value.result (held_by c.loop-right.out)
+summed c = adding_sum complex_terms term_sets masks_of _ (valid_term_sets true).alike _ (term-next c.before.before.before.before.before.before.before) (coefficient c.before) c.sum-sum.ensures
 
 -- where it is zero, and where it is not
 is-zero : (c : Then-is_zero) → is_zero c.sum-sum.result ≡ true
@@ -133,12 +134,12 @@ bounds-t-right c = omega (arith, right-held c.before.before.before.before.before
 pub overflow_add-right : goal.overflow_add-right
 overflow_add-right c = omega (arith, right-held c.before.before.before.before.before.before.before.before.before.before)
 
-pub returns-in-Refused : goal.returns-in-Refused
-returns-in-Refused c =
+pub returns-in-Err : goal.returns-in-Err
+returns-in-Err c =
     ended_refused complex_terms in_range filled _
     (adding_refused complex_terms term_sets masks_of _
     (adding_same complex_terms term_sets masks_of _
-    (ap (λ (s : Said Term). s ∷ rest c.before.before.before.before) (product_refused _ _ _ c.multiply-z.result c.multiply-z.ensures c.in-Refused.is))
+    (ap (λ (s : Said Term). s ∷ rest c.before.before.before.before.before.before) (product_refused _ _ _ c.multiply.result c.multiply.ensures c.in-Err.is))
     (inner_next complex_terms term_sets masks_of _ _ _ _ _ _ c.loop-right.invariant _ c.loop-right-test.true)))
 
 pub offset_bounds-out-at : goal.offset_bounds-out-at
@@ -158,7 +159,7 @@ loop-right-smaller-then-at-n-3 c = omega (arith, c.loop-right-test.true)
 
 pub loop-right-preserved-then-at-n-3 : goal.loop-right-preserved-then-at-n-3
 loop-right-preserved-then-at-n-3 c =
-    let before = term-next c.before.before.before.before.before.before.before.before.before.before.before in
+    let before = term-next c.before.before.before.before.before.before.before.before.before.before.before.before in
     inner_more complex_terms term_sets masks_of _ _ _ _ _ _ c.loop-right.invariant c.loop-right-test.true
     (adding_struck complex_terms term_sets masks_of _ (valid_term_sets true).alike _ before _ (place c.before.before.before.before.before.before.before) _ (summed c.before.before.before.before.before) c.if-at-n-3.true (is-zero c.before.before.before) _ (struck_own term_sets _ _ c.without-out.ensures before.held c.if-at-n-3.true) _
     (closed_long _ _ _ before.long before.held.few c.if-at-n-3.true c.close_up-numbers.ensures)
@@ -170,12 +171,12 @@ loop-right-smaller-else-at-n-3 c = omega arith
 pub loop-right-preserved-else-at-n-3 : goal.loop-right-preserved-else-at-n-3
 loop-right-preserved-else-at-n-3 c =
     inner_more complex_terms term_sets masks_of _ _ _ _ _ _ c.loop-right.invariant c.loop-right-test.true
-    (adding_free complex_terms term_sets masks_of _ (valid_term_sets true).alike _ (term-next c.before.before.before.before.before.before.before.before.before) _ (place c.before.before.before.before.before) _ (summed c.before.before.before) c.if-at-n-3.false (is-zero c.before))
+    (adding_free complex_terms term_sets masks_of _ (valid_term_sets true).alike _ (term-next c.before.before.before.before.before.before.before.before.before.before) _ (place c.before.before.before.before.before) _ (summed c.before.before.before) c.if-at-n-3.false (is-zero c.before))
 
 pub returns-then-at-ge-MOST_TERMS : goal.returns-then-at-ge-MOST_TERMS
 returns-then-at-ge-MOST_TERMS c =
     ended_refused complex_terms in_range filled _
-    (adding_full complex_terms term_sets masks_of _ (valid_term_sets true).alike _ (term-next c.before.before.before.before.before.before.before.before.before) _ (place c.before.before.before.before.before) _ (summed c.before.before.before) c.if-at-ge-MOST_TERMS.true (is-other c.before))
+    (adding_full complex_terms term_sets masks_of _ (valid_term_sets true).alike _ (term-next c.before.before.before.before.before.before.before.before.before.before) _ (place c.before.before.before.before.before) _ (summed c.before.before.before) c.if-at-ge-MOST_TERMS.true (is-other c.before))
 
 pub offset_bounds-out-at-in-loop-right : goal.offset_bounds-out-at-in-loop-right
 offset_bounds-out-at-in-loop-right c = omega arith
@@ -198,7 +199,7 @@ loop-right-smaller-then-n-at c = omega arith
 pub loop-right-preserved-then-n-at : goal.loop-right-preserved-then-n-at
 loop-right-preserved-then-n-at c =
     inner_more complex_terms term_sets masks_of _ _ _ _ _ _ c.loop-right.invariant c.loop-right-test.true
-    (adding_last complex_terms term_sets masks_of _ (valid_term_sets true).alike _ (term-next c.before.before.before.before.before.before.before.before.before.before.before) _ (place c.before.before.before.before.before.before.before) _ (summed c.before.before.before.before.before) c.if-n-at.true c.if-at-ge-MOST_TERMS.false (is-other c.before.before.before) _ c.masks-number.ensures)
+    (adding_last complex_terms term_sets masks_of _ (valid_term_sets true).alike _ (term-next c.before.before.before.before.before.before.before.before.before.before.before.before) _ (place c.before.before.before.before.before.before.before) _ (summed c.before.before.before.before.before) c.if-n-at.true c.if-at-ge-MOST_TERMS.false (is-other c.before.before.before) _ c.masks-number.ensures)
 
 pub loop-right-smaller : goal.loop-right-smaller
 loop-right-smaller c = omega arith
@@ -206,7 +207,7 @@ loop-right-smaller c = omega arith
 pub loop-right-preserved : goal.loop-right-preserved
 loop-right-preserved c =
     inner_more complex_terms term_sets masks_of _ _ _ _ _ _ c.loop-right.invariant c.loop-right-test.true
-    (adding_replaced complex_terms term_sets masks_of _ (valid_term_sets true).alike _ (term-next c.before.before.before.before.before.before.before.before.before.before.before) _ (place c.before.before.before.before.before.before.before) _ (summed c.before.before.before.before.before) c.if-n-at.false (is-other c.before.before.before) _ c.masks-number.ensures)
+    (adding_replaced complex_terms term_sets masks_of _ (valid_term_sets true).alike _ (term-next c.before.before.before.before.before.before.before.before.before.before.before.before) _ (place c.before.before.before.before.before.before.before) _ (summed c.before.before.before.before.before) c.if-n-at.false (is-other c.before.before.before) _ c.masks-number.ensures)
 
 pub all_in_range-requires : goal.all_in_range-requires
 all_in_range-requires c = own-at-end c

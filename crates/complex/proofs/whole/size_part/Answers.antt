@@ -12,9 +12,9 @@ use mir.Syntax.{w64}
 use mir.ValLaws.{to_z_pos}
 use borrow.Author.Tests.{le-leb, lt-leb}
 use Rattle.complex.specs.Wholes.{grain_power, most_parts_power, whole_fraction, whole_of}
-use Rattle.complex.proofs.WholeBits.{fields_zero, fields_tiny, fields_low, fields_high, fields_middle, fraction_whole, fraction_over, fraction_rest, shifted_unit, unit_positive}
+use Rattle.complex.proofs.WholeBits.{fields_zero, fields_tiny, fields_low, fields_high, fields_middle, fraction_whole, fraction_over, fraction_rest, shifted_unit}
 use Rattle.complex.proofs.whole.size_part.Goals as goal
-use Rattle.complex.proofs.whole.size_part.Goals.{else-digits-unit-eq0-via-then-digits-unit-eq0+else-n, else-digits-unit-eq0-via-else-digits-unit-eq0}
+use Rattle.complex.proofs.whole.size_part.Goals.{Else-power, then-power-lt1023-via-then-power-lt1023, then-power-lt1023-via-else-power-lt1023+then-power, else-digits-unit-eq0-via-then-digits-unit-eq0+else-n, else-digits-unit-eq0-via-else-digits-unit-eq0}
 
 -- the two powers that the laws are put to
 fine : grain_power ≤ 1022
@@ -27,34 +27,26 @@ pub returns-then-digits-eq0 : goal.returns-then-digits-eq0
 unfolding whole_of
 returns-then-digits-eq0 c = sym (rw (c.if-field-eq0.true, c.if-digits-eq0.true) (fields_zero grain_power most_parts_power fine few))
 
-pub returns-then-field-eq0 : goal.returns-then-field-eq0
+pub returns-else-digits-eq0 : goal.returns-else-digits-eq0
 unfolding whole_of
-returns-then-field-eq0 c = sym (rw c.if-field-eq0.true (fields_tiny grain_power most_parts_power fine few c.args.digits (omega arith) c.requires.1))
+returns-else-digits-eq0 c = sym (rw c.if-field-eq0.true (fields_tiny grain_power most_parts_power fine few c.args.digits (omega arith) c.requires.1))
 
 pub returns-then-power-lt1023 : goal.returns-then-power-lt1023
 unfolding whole_of
 returns-then-power-lt1023 c =
-    sym (fields_low grain_power most_parts_power fine few c.args.field c.args.digits (omega arith) (omega arith) c.requires.1)
-
-pub returns-then-power : goal.returns-then-power
-unfolding whole_of
-returns-then-power c =
-    sym (fields_high grain_power most_parts_power fine few c.args.field c.args.digits (omega arith))
-
-pub nonzero_div-n : goal.nonzero_div-n
-nonzero_div-n c = unit_positive _ (omega arith)
-
-pub nonzero_rem-digits : goal.nonzero_rem-digits
-nonzero_rem-digits c = unit_positive _ (omega arith)
+    let f = c.args.field in
+    let d = c.args.digits in
+    sym
+    (elim c.then-power-lt1023.branch [
+      | then-power-lt1023-via-then-power-lt1023 w ↦ fields_low grain_power most_parts_power fine few f d (omega arith) (omega arith) c.requires.1
+      | then-power-lt1023-via-else-power-lt1023+then-power w ↦ fields_high grain_power most_parts_power fine few f d (omega arith)
+    ])
 
 -- between, it is the fraction that the code works out, of the digits and the unit
-middle : (c : goal.Else-power) → whole_of (of_fields binary64 false c.args.field c.args.digits) ≡ whole_fraction most_parts_power false (2 ^ 52 + c.args.digits) (1 * 2 ^ (1075 - (c.args.field + grain_power)) % 2 ^ 64)
+middle : (c : Else-power) → whole_of (of_fields binary64 false c.args.field c.args.digits) ≡ whole_fraction most_parts_power false (2 ^ 52 + c.args.digits) (1 * 2 ^ (1075 - (c.args.field + grain_power)) % 2 ^ 64)
 unfolding whole_of
 middle c =
     rw (shifted_unit (1075 - (c.args.field + grain_power)) (omega arith)) (fields_middle grain_power most_parts_power fine few c.args.field c.args.digits (omega arith) (omega arith) (omega arith))
-
-pub overflow_cast-result : goal.overflow_cast-result
-overflow_cast-result c = record { sfits = lt_of_le_of_lt c.if-n.true (lit< tt) }
 
 pub returns-then-n : goal.returns-then-n
 returns-then-n c =

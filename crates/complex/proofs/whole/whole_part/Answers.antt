@@ -13,22 +13,26 @@ use mir.Syntax.{w64}
 use mir.Val.{to_z, of_z, SFits}
 use mir.ValLaws.{to_z-of_z}
 use borrow.Author.Rules.{rules}
-use Rattle.complex.specs.Wholes.{most_parts_power, whole_of, said_whole}
+use Rattle.complex.specs.Wholes.{most_parts_power, whole_of}
 use Rattle.complex.proofs.WholeLaws.{mag_abs, whole_abs}
-use Rattle.complex.proofs.WholeBits.{bits_positive, bits_negative, bits_none, nan_none, itself_number}
+use Rattle.complex.proofs.WholeBits.{bits_positive, bits_negative, bits_none, nan_none}
 use Rattle.complex.proofs.whole.whole_part.Goals as goal
-use Rattle.complex.proofs.whole.whole_part.Goals.{In-Parts}
+use Rattle.complex.proofs.whole.whole_part.Goals.{In_ok-size}
 
-pub returns-then-x : goal.returns-then-x
-returns-then-x c = sym (nan_none c.args.x c.if-x.true)
+pub returns-then-is_nan : goal.returns-then-is_nan
+returns-then-is_nan c = sym (nan_none c.args.x (sym c.is_nan.ensures.value ∙ c.if-is_nan.true))
 
-pub float_to_bits-bits : goal.float_to_bits-bits
-float_to_bits-bits c = itself_number c.args.x c.if-x.false
+-- no number for the size, whatever the sign
+pub returns-in_err-size : goal.returns-in_err-size
+returns-in_err-size c =
+    let x = c.args.x in
+    let f : T (fits binary64 x) = search rules in
+    rw c.from_residual.ensures (sym (bits_none x f (sym c.in_err-size.ensures)))
 
 -- the number found for the size
-found : (c : In-Parts) → let b = to_bits binary64 c.args.x in
-    whole_of (of_fields binary64 false (b / 2 ^ 52 % 2 ^ 11) (b % 2 ^ 52)) ≡ some c.in-Parts.n
-found c = sym c.size_part-size.ensures ∙ ap said_whole c.in-Parts.is
+found : (c : In_ok-size) → let b = to_bits binary64 c.args.x in
+    whole_of (of_fields binary64 false (b / 2 ^ 52 % 2 ^ 11) (b % 2 ^ 52)) ≡ some c.in_ok-size.size
+found c = sym c.in_ok-size.ensures
 
 -- it has room in an i64, and so has its negative
 fits_both : (z : ℤ) → nat_abs z ≤ 2 ^ most_parts_power → SFits w64 z × SFits w64 (pos 0 -ℤ z)
@@ -39,30 +43,25 @@ fits_both z h = (record { sfits = lt_of_le_of_lt (le_trans (mag_abs z) h) (lit< 
     other (pos (suc n)) = omega arith
     other (negsuc n) = omega arith
 
-room : (c : In-Parts) → let z = c.in-Parts.n in SFits w64 z × SFits w64 (pos 0 -ℤ z)
-room c = fits_both c.in-Parts.n (whole_abs _ c.in-Parts.n (found c))
+room : (c : In_ok-size) → let z = c.in_ok-size.size in SFits w64 z × SFits w64 (pos 0 -ℤ z)
+room c = fits_both c.in_ok-size.size (whole_abs _ c.in_ok-size.size (found c))
 
 pub returns-then-bits-lt-SIGN : goal.returns-then-bits-lt-SIGN
 returns-then-bits-lt-SIGN c =
     let x = c.args.x in
+    let z = c.in_ok-size.size in
     let f : T (fits binary64 x) = search rules in
-    sym (bits_positive x f c.if-bits-lt-SIGN.true ∙ found c.before)
+    ap some (to_z-of_z w64 z (room c.before).0)
+    ∙ sym (bits_positive x f c.if-bits-lt-SIGN.true ∙ found c.before)
 
 pub overflow_sub-result : goal.overflow_sub-result
 overflow_sub-result c =
-    rw (to_z-of_z w64 c.in-Parts.n (room c.before).0) (room c.before).1
+    rw (to_z-of_z w64 c.in_ok-size.size (room c.before).0) (room c.before).1
 
 pub returns-else-bits-lt-SIGN : goal.returns-else-bits-lt-SIGN
 returns-else-bits-lt-SIGN c =
     let x = c.args.x in
-    let z = c.in-Parts.n in
+    let z = c.in_ok-size.size in
     let f : T (fits binary64 x) = search rules in
     ap some (ap (λ (y : ℤ). to_z w64 (of_z w64 (pos 0 -ℤ y))) (to_z-of_z w64 z (room c.before).0) ∙ to_z-of_z w64 (pos 0 -ℤ z) (room c.before).1 ∙ +ℤ_idl (neg_ℤ z))
     ∙ sym (bits_negative x f c.if-bits-lt-SIGN.false ∙ ap (map neg_ℤ) (found c.before))
-
--- no number for the size, whatever the sign
-pub returns-in-NotWhole : goal.returns-in-NotWhole
-returns-in-NotWhole c =
-    let x = c.args.x in
-    let f : T (fits binary64 x) = search rules in
-    sym (bits_none x f (sym c.size_part-size.ensures ∙ ap said_whole c.in-NotWhole.is))

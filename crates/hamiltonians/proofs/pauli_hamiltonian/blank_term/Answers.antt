@@ -2,4 +2,4 @@
 use Rattle.hamiltonians.proofs.pauli_hamiltonian.blank_term.Goals as goal
 
 pub returns : goal.returns
-returns c = rw c.empty.ensures
+returns c = rw c.new.ensures

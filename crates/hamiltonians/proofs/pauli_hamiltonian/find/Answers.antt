@@ -2,6 +2,7 @@
 use native.Mathlib.Omega.{arith}
 use mathlib.Core.Path.{◌≡◌, sym, ◌∙◌}
 use lib.ListN.{length}
+use Rattle.items.proofs.SameLaws.{items_eq}
 use Rattle.terms.proofs.PlaceLaws.{searched_none, searched_more, searched_found, searched_done}
 use Rattle.hamiltonians.proofs.pauli_hamiltonian.find.Goals as goal
 
@@ -16,9 +17,9 @@ offset_bounds-s-i c = omega arith
 pub bounds-s-i : goal.bounds-s-i
 bounds-s-i c = omega arith
 
-pub returns-then-same : goal.returns-then-same
-returns-then-same c =
-    searched_found _ c.loop-i.invariant (omega arith) (sym c.same.ensures ∙ c.if-same.true)
+pub returns-then-eq : goal.returns-then-eq
+returns-then-eq c =
+    searched_found _ c.loop-i.invariant (omega arith) (sym (c.eq.ensures ∙ items_eq _ _) ∙ c.if-eq.true)
 
 pub overflow_add-i : goal.overflow_add-i
 overflow_add-i c = omega arith
@@ -28,7 +29,7 @@ loop-i-smaller c = omega arith
 
 pub loop-i-preserved : goal.loop-i-preserved
 loop-i-preserved c =
-    searched_more _ c.loop-i.invariant (omega arith) (sym c.same.ensures ∙ c.if-same.false)
+    searched_more _ c.loop-i.invariant (omega arith) (sym (c.eq.ensures ∙ items_eq _ _) ∙ c.if-eq.false)
 
 pub returns : goal.returns
 returns c = searched_done c.loop-i.invariant (omega arith)

@@ -10,7 +10,7 @@ use Rattle.letters.proofs.tables.pauli_product.Goals as goal
 pub returns-in-4 : goal.returns-in-4
 unfolding letters_of
 returns-in-4 c =
-    rw c.new.ensures
+    rw c.scaled.ensures
     (identity_right Pauli _ _ c.requires.0
     (⊎_elim (λ e. omega arith) (⊎_elim (λ e. omega arith) (λ e. omega arith)) c.in-4.is))
 
@@ -18,7 +18,7 @@ pub returns-in-5 : goal.returns-in-5
 unfolding letters_of codes
 returns-in-5 c =
     let p = c.requires in
-    rw c.new-in-5.ensures
+    rw c.scaled-in-5.ensures
     (⊎_elim
     (λ e. parts (times_code Pauli _ _ 5 p.0 p.1 e))
     (⊎_elim
@@ -30,44 +30,44 @@ pub returns-in-6 : goal.returns-in-6
 unfolding letters_of codes
 returns-in-6 c =
     let p = c.requires in
-    rw c.new-in-6.ensures
+    rw c.scaled-in-6.ensures
     (parts (times_code Pauli _ _ 6 p.0 p.1 c.in-6.is))
 
 pub returns-in-7 : goal.returns-in-7
 unfolding letters_of codes
 returns-in-7 c =
     let p = c.requires in
-    rw c.new-in-7.ensures
+    rw c.scaled-in-7.ensures
     (parts (times_code Pauli _ _ 7 p.0 p.1 c.in-7.is))
 
 pub returns-in-9 : goal.returns-in-9
 unfolding letters_of codes
 returns-in-9 c =
     let p = c.requires in
-    rw c.new-in-9.ensures
+    rw c.scaled-in-9.ensures
     (parts (times_code Pauli _ _ 9 p.0 p.1 c.in-9.is))
 
 pub returns-in-11 : goal.returns-in-11
 unfolding letters_of codes
 returns-in-11 c =
     let p = c.requires in
-    rw c.new-in-11.ensures
+    rw c.scaled-in-11.ensures
     (parts (times_code Pauli _ _ 11 p.0 p.1 c.in-11.is))
 
 pub returns-in-13 : goal.returns-in-13
 unfolding letters_of codes
 returns-in-13 c =
     let p = c.requires in
-    rw c.new-in-13.ensures
+    rw c.scaled-in-13.ensures
     (parts (times_code Pauli _ _ 13 p.0 p.1 c.in-13.is))
 
 pub returns-in-0-to-3 : goal.returns-in-0-to-3
 unfolding letters_of
-returns-in-0-to-3 c = rw c.new-in-0-to-3.ensures (identity_left Pauli _ _ c.requires.1 (omega arith))
+returns-in-0-to-3 c = rw c.scaled-in-0-to-3.ensures (identity_left Pauli _ _ c.requires.1 (omega arith))
 
 pub returns-in_default : goal.returns-in_default
 unfolding letters_of codes
 returns-in_default c =
     let p = c.requires in
-    rw c.new-in_default.ensures
+    rw c.scaled-in_default.ensures
     (parts (times_code Pauli _ _ 14 p.0 p.1 (grind arith)))

@@ -1,26 +1,16 @@
--- `multiply::first_occupied`: p occupies none of the sites of the places passed.
+-- `multiply::first_occupied`: the first site that is found occupied in p.
 -- Assumes nothing.
-use Rattle.items.proofs.RecordLaws.{place_fits}
-use Rattle.items.proofs.ScanLaws.{scan_none}
-use Rattle.merging.proofs.SiteLaws.{occupied_more, occupied_found, occupied_none}
+use Rattle.std.proofs.Common.{◌≡◌, ◌<◌, rules}
+use Rattle.std.proofs.lemmas.Iterator.{YieldsList-from_slice, YieldsList-from_take, first_from_find}
+use Rattle.std.proofs.lemmas.Iterator.Consumers.{YieldsList-from_copied}
+use Rattle.items.specs.Record.{letter_at}
+use Rattle.merging.proofs.SiteLaws.{letter_there, letter_none, first_searched}
 use Rattle.merging.proofs.multiply.first_occupied.Goals as goal
 
-pub loop-j-init : goal.loop-j-init
-loop-j-init c = scan_none _ _
-
-pub bounds-q-j : goal.bounds-q-j
-bounds-q-j c = place_fits _ _ c.requires.1 c.loop-j-test.true
-
-pub letter_at-requires : goal.letter_at-requires
-letter_at-requires c = c.requires.0
-
-pub returns-then-letter_at-gt0 : goal.returns-then-letter_at-gt0
-returns-then-letter_at-gt0 c =
-    occupied_found _ _ c.loop-j.invariant c.loop-j-test.true c.letter_at.ensures c.if-letter_at-gt0.true
-
-pub loop-j-preserved : goal.loop-j-preserved
-loop-j-preserved c =
-    occupied_more c.args.p c.args.q c.loop-j.invariant c.loop-j-test.true c.letter_at.ensures c.if-letter_at-gt0.false
-
 pub returns : goal.returns
-returns c = occupied_none _ _ c.loop-j.invariant c.loop-j-test.false
+returns c =
+    first_searched _ _ c.args.q.now.is_valid _
+    (first_from_find _ _ c.find.result (λ x. 0 < letter_at c.args.p.now.items x) (λ x. letter_at c.args.p.now.items x ≡ 0) c.find.ensures.ran
+    (YieldsList-from_copied (YieldsList-from_take c.args.q.now.items.count (YieldsList-from_slice c.args.q.now.items.sites cc) cc))
+    (λ x q k. search (rules, letter_there))
+    (λ x q k. search (rules, letter_none)))

@@ -1,58 +1,72 @@
--- `site::inserted`: the places from i on are one further up; the site is free, so not every place is taken.
+-- `site::inserted`: the places from the site's own on are turned up by one; the site is free, so not every place is taken.
 -- Assumes nothing.
-use Prim.Native.Nat.{◌<◌}
-use native.Mathlib.Omega.{arith}
+use Rattle.std.proofs.Common.{◌≡◌, ℕ, ◌<◌, ◌≤◌, length, arith, rules}
+use Rattle.std.proofs.lemmas.List.{places}
 use Rattle.items.specs.Record.{capacity}
-use Rattle.merging.proofs.PlaceLaws.{free_room}
-use Rattle.merging.proofs.ShiftLaws.{opening_more}
-use Rattle.merging.proofs.PutLaws.{opening_none, opening_done}
+use Rattle.items.specs.declared.Items.{Items}
+use Rattle.items.proofs.RecordLaws.{valid_shape}
+use Rattle.merging.proofs.PlaceLaws.{free_room, place_cursor}
+use Rattle.merging.proofs.ShiftLaws.{turned_up}
+use Rattle.merging.proofs.PutLaws.{sites_end, letters_end, insert_record}
 use Rattle.merging.proofs.site.inserted.Goals as goal
-use Rattle.merging.proofs.site.inserted.Goals.{At-loop-i}
+use Rattle.merging.proofs.site.inserted.Goals.{Start}
 
--- a letter more has a place
-room : (l : At-loop-i) → l.args.p.count < capacity
-room l = let pre = l.requires in free_room _ pre.0 _ pre.1 pre.5
+-- what the bounds go by
+record Bounds (p : Items) (place : ℕ) : Type 0 where
+  place_most : place ≤ p.count
+  count_most : p.count < capacity
+  sites_long : length p.sites ≡ capacity
+  letters_long : length p.letters ≡ capacity
 
-pub loop-i-init : goal.loop-i-init
-loop-i-init c = let pre = c.requires in opening_none _ pre.0 pre.1 pre.2 pre.3 pre.4 pre.5
+bounds : (c : Start) → Bounds c.args.p.now.items c.args.place
+bounds c =
+    let v = c.args.p.now.is_valid in
+    let shape = valid_shape _ v in
+    record {
+      place_most = (place_cursor _ v c.requires.3).within;
+      count_most = free_room _ v _ c.requires.0 c.requires.4;
+      sites_long = shape.sites_long;
+      letters_long = shape.letters_long;
+    }
 
-pub overflow_sub-sites : goal.overflow_sub-sites
-overflow_sub-sites c = omega arith
+pub overflow_add-count : goal.overflow_add-count
+overflow_add-count c = let b = bounds (goal.at.overflow_add-count c).Start in omega arith
 
-pub bounds-sites-i : goal.bounds-sites-i
-bounds-sites-i c = omega (arith, room c.before)
+pub slice_bounds-rotate_right-count : goal.slice_bounds-rotate_right-count
+slice_bounds-rotate_right-count c = let b = bounds (goal.at.slice_bounds-rotate_right-count c).Start in omega arith
 
-pub bounds-sites-i-in-loop-i : goal.bounds-sites-i-in-loop-i
-bounds-sites-i-in-loop-i c = omega (arith, room c.before, c.loop-i.invariant.to)
+pub slice_bounds-rotate_right-start : goal.slice_bounds-rotate_right-start
+slice_bounds-rotate_right-start c = let b = bounds (goal.at.slice_bounds-rotate_right-start c).Start in search rules
 
-pub overflow_sub-letters : goal.overflow_sub-letters
-overflow_sub-letters c = omega arith
+pub slice_bounds-rotate_right-end : goal.slice_bounds-rotate_right-end
+slice_bounds-rotate_right-end c = let b = bounds (goal.at.slice_bounds-rotate_right-end c).Start in search rules
 
-pub bounds-letters-i : goal.bounds-letters-i
-bounds-letters-i c = omega (arith, room c.before, c.loop-i.invariant.to)
+pub rotate_right-requires : goal.rotate_right-requires
+rotate_right-requires c = let b = bounds (goal.at.rotate_right-requires c).Start in search (rules, places)
 
-pub bounds-letters-i-in-loop-i : goal.bounds-letters-i-in-loop-i
-bounds-letters-i-in-loop-i c = omega (arith, room c.before, c.loop-i.invariant.to)
+pub slice_bounds-rotate_right-count-2 : goal.slice_bounds-rotate_right-count-2
+slice_bounds-rotate_right-count-2 c = let b = bounds (goal.at.slice_bounds-rotate_right-count-2 c).Start in omega arith
 
-pub overflow_sub-i : goal.overflow_sub-i
-overflow_sub-i c = omega arith
+pub slice_bounds-rotate_right-start-2 : goal.slice_bounds-rotate_right-start-2
+slice_bounds-rotate_right-start-2 c = let b = bounds (goal.at.slice_bounds-rotate_right-start-2 c).Start in search rules
 
-pub loop-i-smaller : goal.loop-i-smaller
-loop-i-smaller c = omega arith
+pub slice_bounds-rotate_right-end-2 : goal.slice_bounds-rotate_right-end-2
+slice_bounds-rotate_right-end-2 c = let b = bounds (goal.at.slice_bounds-rotate_right-end-2 c).Start in search rules
 
-pub loop-i-preserved : goal.loop-i-preserved
-loop-i-preserved c = opening_more c.loop-i.invariant (room c.before) c.loop-i-test.true
+pub rotate_right-requires-2 : goal.rotate_right-requires-2
+rotate_right-requires-2 c = let b = bounds (goal.at.rotate_right-requires-2 c).Start in search (rules, places)
 
-pub bounds-sites-place : goal.bounds-sites-place
-bounds-sites-place c = omega (arith, room c.before, c.loop-i.invariant.from, c.loop-i.invariant.to)
+pub bounds-q-place : goal.bounds-q-place
+bounds-q-place c = let b = bounds (goal.at.bounds-q-place c).Start in omega arith
 
-pub bounds-letters-place : goal.bounds-letters-place
-bounds-letters-place c = omega (arith, room c.before, c.loop-i.invariant.from, c.loop-i.invariant.to)
-
-pub overflow_add-result : goal.overflow_add-result
-overflow_add-result c = omega (arith, room c.before)
+pub bounds-q-place-2 : goal.bounds-q-place-2
+bounds-q-place-2 c = let b = bounds (goal.at.bounds-q-place-2 c).Start in omega arith
 
 pub returns : goal.returns
 returns c =
-    let pre = c.requires in
-    opening_done _ pre.0 pre.1 pre.2 pre.3 pre.4 pre.5 c.loop-i.invariant c.loop-i-test.false
+    let b = bounds (goal.at.returns c).Start in
+    let r = c.requires in
+    let v = c.args.p.now.is_valid in
+    insert_record _ v r.0 r.1 r.2 r.3 r.4
+    (turned_up _ _ _ (sites_end _ v) b.place_most b.count_most c.rotate_right.ensures.len c.rotate_right.ensures.by_index)
+    (turned_up _ _ _ (letters_end _ v) b.place_most b.count_most c.rotate_right-2.ensures.len c.rotate_right-2.ensures.by_index)

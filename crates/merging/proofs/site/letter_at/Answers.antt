@@ -1,22 +1,31 @@
--- `site::letter_at`: the loop has passed i places with other sites; the places ascend, so the first that has the site is the only one.
+-- `site::letter_at`: the place found is the only one that has the site.
 -- Assumes nothing.
-use Rattle.items.proofs.RecordLaws.{place_fits, passed_none, passed_more, passed_found, passed_done}
+use Rattle.std.proofs.Common.{◌≡◌, ◌<◌, MatchOption, rules}
+use Rattle.std.proofs.lemmas.Iterator.{YieldsList-from_slice, YieldsList-from_take, IsFirst-from_position}
+use Rattle.std.proofs.lemmas.Option.{MatchOption-at_none, MatchOption-at_some}
+use borrow.Author.Tests.{tests}
+use Rattle.items.specs.Lists.{at}
+use Rattle.items.specs.Record.{letter_at}
+use Rattle.merging.proofs.FindLaws.{letter_searched}
 use Rattle.merging.proofs.site.letter_at.Goals as goal
+use Rattle.merging.proofs.site.letter_at.Goals.{After-position}
 
-pub loop-i-init : goal.loop-i-init
-loop-i-init c = passed_none _ _ _
+-- the place found, or that the site is free
+found : (c : After-position) → MatchOption c.position.result (letter_at c.args.p.now.items c.args.site ≡ 0)
+    (λ i. (i < c.args.p.now.items.count) × (at c.args.p.now.items.letters i ≡ letter_at c.args.p.now.items c.args.site) × (0 < at c.args.p.now.items.letters i))
+found c =
+    letter_searched _ c.args.p.now.is_valid _ _
+    (IsFirst-from_position _ _ c.position.result (λ x. x ≡ c.args.site) (λ x. x ≡ c.args.site → ⊥) c.position.ensures.ran
+    (YieldsList-from_take c.args.p.now.items.count (YieldsList-from_slice c.args.p.now.items.sites cc) cc)
+    (λ x q k. search (rules, tests))
+    (λ x q k. search (rules, tests)))
 
-pub bounds-p-i : goal.bounds-p-i
-bounds-p-i c = place_fits _ _ c.requires c.loop-i-test.true
-
-pub bounds-p-i-then-p-i : goal.bounds-p-i-then-p-i
-bounds-p-i-then-p-i c = place_fits _ _ c.requires c.loop-i-test.true
-
-pub returns-then-p-i : goal.returns-then-p-i
-returns-then-p-i c = passed_found _ _ _ c.requires c.loop-i-test.true c.if-p-i.true
-
-pub loop-i-preserved : goal.loop-i-preserved
-loop-i-preserved c = passed_more c.loop-i.invariant c.loop-i-test.true c.if-p-i.false
+pub returns-in_err-place : goal.returns-in_err-place
+returns-in_err-place c =
+    rw c.from_residual.ensures
+    (MatchOption-at_none _ _ c.in_err-place.was (found (goal.at.returns-in_err-place c).After-position))
 
 pub returns : goal.returns
-returns c = passed_done _ c.loop-i.invariant c.loop-i-test.false
+returns c =
+    let k = MatchOption-at_some _ _ _ c.in_ok-place.was (found (goal.at.returns c).After-position) in
+    (k.1, k.2)

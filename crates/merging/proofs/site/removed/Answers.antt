@@ -1,58 +1,23 @@
--- `site::removed`: the places past the one taken out, up to i, are one further down.
+-- `site::removed`: the places past the one taken out are turned down by one, and zeros stand at the last.
 -- Assumes nothing.
-use Prim.Native.Nat.{◌-◌, ◌<◌}
+use Rattle.std.proofs.Common.{rules}
 use native.Mathlib.Omega.{arith}
-use Rattle.items.specs.Record.{capacity}
-use Rattle.items.proofs.RecordLaws.{place_fits}
-use Rattle.merging.proofs.ShiftLaws.{closing_more}
-use Rattle.merging.proofs.PutLaws.{closing_none, closing_done}
+use Rattle.items.proofs.RecordLaws.{valid_shape}
+use Rattle.merging.proofs.ShiftLaws.{turned_down}
+use Rattle.merging.proofs.PutLaws.{sites_end, letters_end, remove_record}
 use Rattle.merging.proofs.site.removed.Goals as goal
-use Rattle.merging.proofs.site.removed.Goals.{At-loop-i}
 
--- the last place is one of the arrays
-room : (l : At-loop-i) → l.args.p.count - 1 < capacity
-room l = let pre = l.requires in place_fits _ _ pre.0 (omega arith)
-
-pub overflow_sub-last : goal.overflow_sub-last
-overflow_sub-last c = omega arith
-
-pub loop-i-init : goal.loop-i-init
-loop-i-init c = let pre = c.requires in closing_none _ pre.0 pre.1 (omega arith)
-
-pub overflow_add-sites : goal.overflow_add-sites
-overflow_add-sites c = omega (arith, room c.before)
-
-pub bounds-sites-i : goal.bounds-sites-i
-bounds-sites-i c = omega (arith, room c.before)
-
-pub bounds-sites-i-in-loop-i : goal.bounds-sites-i-in-loop-i
-bounds-sites-i-in-loop-i c = omega (arith, room c.before)
-
-pub overflow_add-letters : goal.overflow_add-letters
-overflow_add-letters c = omega (arith, room c.before)
-
-pub bounds-letters-i : goal.bounds-letters-i
-bounds-letters-i c = omega (arith, room c.before)
-
-pub bounds-letters-i-in-loop-i : goal.bounds-letters-i-in-loop-i
-bounds-letters-i-in-loop-i c = omega (arith, room c.before)
-
-pub overflow_add-i : goal.overflow_add-i
-overflow_add-i c = omega (arith, room c.before)
-
-pub loop-i-smaller : goal.loop-i-smaller
-loop-i-smaller c = omega arith
-
-pub loop-i-preserved : goal.loop-i-preserved
-loop-i-preserved c = closing_more c.loop-i.invariant (room c.before) c.loop-i-test.true
-
-pub bounds-sites-last : goal.bounds-sites-last
-bounds-sites-last c = omega (arith, room c.before, c.loop-i.invariant.from, c.loop-i.invariant.to)
-
-pub bounds-letters-last : goal.bounds-letters-last
-bounds-letters-last c = omega (arith, room c.before, c.loop-i.invariant.from, c.loop-i.invariant.to)
+pub slice_bounds-rotate_left-end : goal.slice_bounds-rotate_left-end
+slice_bounds-rotate_left-end c =
+    let shape = valid_shape _ c.args.p.now.is_valid in
+    let a = shape.sites_long in
+    let b = shape.count_most in
+    search rules
 
 pub returns : goal.returns
 returns c =
-    let pre = c.requires in
-    closing_done _ pre.0 pre.1 (omega arith) c.loop-i.invariant c.loop-i-test.false
+    let v = c.args.p.now.is_valid in
+    let most = (valid_shape _ v).count_most in
+    remove_record _ v c.requires (omega arith)
+    (turned_down _ _ (sites_end _ v) c.requires most c.rotate_left.ensures.len c.rotate_left.ensures.by_index)
+    (turned_down _ _ (letters_end _ v) c.requires most c.rotate_left-2.ensures.len c.rotate_left-2.ensures.by_index)

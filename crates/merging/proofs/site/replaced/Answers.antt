@@ -4,8 +4,8 @@ use Rattle.items.proofs.RecordLaws.{place_fits}
 use Rattle.merging.proofs.PutLaws.{replace_record}
 use Rattle.merging.proofs.site.replaced.Goals as goal
 
-pub bounds-letters-place : goal.bounds-letters-place
-bounds-letters-place c = let pre = c.requires in place_fits _ _ pre.0 pre.1
+pub bounds-q-place : goal.bounds-q-place
+bounds-q-place c = place_fits _ _ c.args.p.now.is_valid c.requires.0
 
 pub returns : goal.returns
-returns c = let pre = c.requires in replace_record _ pre.0 pre.1 pre.2 pre.3
+returns c = let r = c.requires in replace_record _ c.args.p.now.is_valid r.0 r.1 r.2

@@ -1,12 +1,7 @@
--- What equals itself is no NaN, so it has bits. Assumes nothing.
-use Rattle.complex.proofs.ZeroLaws.{compared_number}
+-- A number that is no NaN equals itself. Assumes nothing.
+use Rattle.std.proofs.Common.{sym, ◌∙◌}
+use Rattle.observations.proofs.NumberLaws.{equals_itself}
 use Rattle.observations.proofs.records.bits.Goals as goal
 
-pub float_to_bits-result : goal.float_to_bits-result
-float_to_bits-result c = compared_number c.args.x _ c.if-x.true
-
-pub returns-then-x : goal.returns-then-x
-returns-then-x c = rw c.if-x.true
-
-pub returns : goal.returns
-returns c = rw c.if-x.false
+pub returns-else-is_nan : goal.returns-else-is_nan
+returns-else-is_nan c = rw (equals_itself c.args.x (sym c.is_nan.ensures.value ∙ c.if-is_nan.false))

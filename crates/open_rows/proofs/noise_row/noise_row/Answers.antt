@@ -2,7 +2,7 @@
 use mathlib.Core.Path.{◌≡◌, refl, sym, ap, ◌∙◌}
 use mathlib.Core.List.{[]}
 use borrow.Author.Tests.{not-true, not-false}
-use Rattle.refusal.specs.Refusals.{carried}
+use Rattle.refusal.specs.Refusals.{listed}
 use Rattle.rows.specs.Calls.{outside}
 use Rattle.rows.proofs.CallLaws.{call_malformed, call_valid, call_spins, call_range, call_outside, call_row}
 use Rattle.noise_sets.specs.Pairs.{held_by}
@@ -35,11 +35,11 @@ pairs_fit-requires c =
     let m = c.masked-n.ensures in
     (pairs-few _ m (sym (pairs_judged _ m) ∙ not-false _ c.if-not-n.false), c.if-spins-gt-MOST_SPINS.false)
 
-pub returns-in-Site : goal.returns-in-Site
+pub returns-in-Some : goal.returns-in-Some
 unfolding noise_row
-returns-in-Site c =
+returns-in-Some c =
     let v = sym (pairs_judged _ c.masked-n.ensures) ∙ not-false _ c.if-not-n.false in
-    let site = ap carried (sym c.in-Site.is) ∙ c.of_noise.ensures in
+    let site = ap listed (sym c.in-Some.is) ∙ c.of_noise.ensures in
     call_valid _ v refl (call_outside _ _ _ _ _ c.if-spins-gt-MOST_SPINS.false (square_few _ c.if-spins-gt-MOST_SPINS.false c.superoperator_size.ensures) c.if-superoperator_size-row.false site)
 
 pub deliver_noise-requires : goal.deliver_noise-requires
@@ -58,7 +58,7 @@ returns c =
     let size = square_few _ few c.superoperator_size.ensures in
     let none : [] ≡ outside c.args.spins (sides_of l) =
     elim c.if-not-pairs_fit.branch [
-      | then-not-pairs_fit+in_default w ↦ ap carried (sym w.in_default.is) ∙ w.of_noise.ensures
+      | then-not-pairs_fit+in_default w ↦ ap listed (sym w.in_default.is) ∙ w.of_noise.ensures
       | else-not-pairs_fit w ↦ sym (c.pairs_fit.ensures w.if-not-pairs_fit.false l (noise-valid _ v) p.count p.left_products p.right_products)
     ]
     in

@@ -7,11 +7,12 @@ use native.Mathlib.Omega.{arith}
 use lib.ListN.{length, length-set}
 use lib.Seq.{get_or-set_same}
 use borrow.Author.Rules.{rules}
-use Rattle.terms.proofs.BranchLaws.{passed, failed_first, failed_second, passed_both}
+use Rattle.letters.proofs.TestLaws.{and_true, and_false}
+use Rattle.terms.proofs.BranchLaws.{passed, failed}
 use Rattle.terms.proofs.FingerprintLaws.{stored_before, fingerprinted_none, fingerprinted_failed, fingerprinted_again, fingerprinted_more, fingerprinted_done}
 use Rattle.terms.proofs.MarkLaws.{marked_none, marked_more, masks_new}
 use Rattle.term_sets.proofs.ValidLaws.{valid_term_sets}
-use Rattle.term_sets.proofs.MaskLaws.{judged_masks_lem, masks_again}
+use Rattle.term_sets.proofs.MaskLaws.{judged_some, not_judged, masks_again}
 use Rattle.term_sets.proofs.valid_terms.all_good.Goals as goal
 use Rattle.term_sets.proofs.valid_terms.all_good.Invariants.{fingerprints-of}
 
@@ -26,19 +27,19 @@ offset_bounds-s-i c = omega arith
 pub bounds-s-i : goal.bounds-s-i
 bounds-s-i c = omega arith
 
-pub returns-then-not-v : goal.returns-then-not-v
-returns-then-not-v c =
-    fingerprinted_failed (valid_term_sets c.args.zeros) fingerprints-of _ c.loop-i.invariant.0 (omega arith) (failed_first _ c.judged-v.ensures.0 c.if-not-v.true)
+pub returns-in_default : goal.returns-in_default
+returns-in_default c =
+    fingerprinted_failed (valid_term_sets c.args.zeros) fingerprints-of _ c.loop-i.invariant.0 (omega arith) (not_judged _ _ (sym c.judged.ensures ∙ c.in_default.is))
 
 pub returns-then-not-good_coefficient : goal.returns-then-not-good_coefficient
 returns-then-not-good_coefficient c =
-    fingerprinted_failed (valid_term_sets c.args.zeros) fingerprints-of _ c.loop-i.invariant.0 (omega arith) (failed_second c.judged-v.ensures.0 c.good_coefficient.ensures (ap not c.if-not-good_coefficient.true))
+    fingerprinted_failed (valid_term_sets c.args.zeros) fingerprints-of _ c.loop-i.invariant.0 (omega arith) (and_false _ _ (failed c.good_coefficient.ensures (ap not c.if-not-good_coefficient.true)))
 
 pub returns-then-not-is_new_marked : goal.returns-then-not-is_new_marked
 returns-then-not-is_new_marked c =
     fingerprinted_again (valid_term_sets c.args.zeros) fingerprints-of _ c.loop-i.invariant.0 (omega arith) masks_again
-    (judged_masks_lem _ (passed c.judged-v.ensures.0 c.if-not-v.false) c.judged-v.ensures.1)
-    (sym (c.is_new_marked.ensures ∙ masks_new c.loop-i.invariant.1.0 (omega arith) c.judged-v.result.masks) ∙ c.if-not-is_new_marked.true)
+    (judged_some _ (sym c.judged.ensures ∙ c.in-Some.is)).1
+    (sym (c.is_new_marked.ensures ∙ masks_new c.loop-i.invariant.1.0 (omega arith) c.in-Some.x) ∙ c.if-not-is_new_marked.true)
 
 pub offset_bounds-masks-i : goal.offset_bounds-masks-i
 offset_bounds-masks-i c = omega arith
@@ -56,12 +57,13 @@ pub loop-i-preserved : goal.loop-i-preserved
 loop-i-preserved c =
     let masks = c.loop-i.masks in
     let i = c.loop-i.i in
-    let x = c.judged-v.result.masks in
+    let x = c.in-Some.x in
+    let is = judged_some _ (sym c.judged.ensures ∙ c.in-Some.is) in
     let before = stored_before masks i x in
     let last = get_or-set_same masks i x 0 (search rules) in (
       fingerprinted_more (valid_term_sets c.args.zeros) fingerprints-of _ c.loop-i.invariant.0 (omega arith) _
-          (passed_both c.judged-v.ensures.0 c.if-not-v.false c.good_coefficient.ensures (ap not c.if-not-good_coefficient.false))
-          (judged_masks_lem _ (passed c.judged-v.ensures.0 c.if-not-v.false) c.judged-v.ensures.1)
+          (and_true is.0 (passed c.good_coefficient.ensures (ap not c.if-not-good_coefficient.false)))
+          is.1
           (sym (c.is_new_marked.ensures ∙ masks_new c.loop-i.invariant.1.0 (omega arith) x) ∙ c.if-not-is_new_marked.false)
           before
           last,

@@ -41,32 +41,32 @@ returns-then-not-is_valid c = rw (sym c.is_valid.ensures ∙ c.if-not-is_valid.t
 
 pub returns-then-not-is_valid-2 : goal.returns-then-not-is_valid-2
 unfolding add_real
-returns-then-not-is_valid-2 c = rw (set_valid c.before.before, sym c.is_valid-2.ensures ∙ c.if-not-is_valid-2.true)
+returns-then-not-is_valid-2 c = rw (set_valid c.before.before.before, sym c.is_valid-2.ensures ∙ c.if-not-is_valid-2.true)
 
 pub returns-then-not-part_in_range : goal.returns-then-not-part_in_range
 unfolding add_real
 returns-then-not-part_in_range c =
     let bad = sym c.part_in_range.ensures ∙ c.if-not-part_in_range.true in
-    rw (set_valid c.before.before.before.before, key-valid c.before.before, bad)
+    rw (set_valid c.before.before.before.before.before, key-valid c.before.before, bad)
 
 pub coefficient_at-requires : goal.coefficient_at-requires
-coefficient_at-requires c = valid-count _ (set_valid c.before.before.before.before)
+coefficient_at-requires c = valid-count _ (set_valid c.before.before.before.before.before)
 
 pub put-w-requires : goal.put-w-requires
-put-w-requires c = valid_own _ (set_valid c.before.before.before.before.before)
+put-w-requires c = valid_own _ (set_valid c.before.before.before.before.before.before)
 
 pub returns-then-not-w : goal.returns-then-not-w
 unfolding add_real
 returns-then-not-w c =
     let full = failed c.put-w.ensures.room c.if-not-w.true in
-    rw (set_valid c.before.before.before.before.before.before.before.before, key-valid c.before.before.before.before.before.before, value-in-range c.before.before.before.before, is_sum c.before.before.before, full)
+    rw (set_valid c.before.before.before.before.before.before.before.before.before, key-valid c.before.before.before.before.before.before, value-in-range c.before.before.before.before, is_sum c.before.before.before, full)
 
 pub returns-then-not-part_in_range-2 : goal.returns-then-not-part_in_range-2
 unfolding add_real
 returns-then-not-part_in_range-2 c =
     let room = passed c.put-w.ensures.room c.if-not-w.false in
     let bad = sym c.part_in_range-2.ensures ∙ c.if-not-part_in_range-2.true in
-    rw (set_valid c.before.before.before.before.before.before.before.before.before.before, key-valid c.before.before.before.before.before.before.before.before, value-in-range c.before.before.before.before.before.before, is_sum c.before.before.before.before.before, room, bad)
+    rw (set_valid c.before.before.before.before.before.before.before.before.before.before.before, key-valid c.before.before.before.before.before.before.before.before, value-in-range c.before.before.before.before.before.before, is_sum c.before.before.before.before.before, room, bad)
 
 pub returns : goal.returns
 unfolding add_real
@@ -74,4 +74,4 @@ returns c =
     let room = passed c.put-w.ensures.room c.if-not-w.false in
     let ok = sym c.part_in_range-2.ensures ∙ c.if-not-part_in_range-2.false in
     let after = puts_written real_terms real_sets c.args.key.items (sum_at c.before.before.before.before.before.before) c.args.self.count c.args.self.terms (c.put-w.ensures.room, c.put-w.ensures.set) (not-false _ c.if-not-w.false) in
-    rw (set_valid c.before.before.before.before.before.before.before.before.before.before.before, key-valid c.before.before.before.before.before.before.before.before.before, value-in-range c.before.before.before.before.before.before.before, is_sum c.before.before.before.before.before.before, room, ok) (λ j. (done, after j))
+    rw (set_valid c.before.before.before.before.before.before.before.before.before.before.before.before, key-valid c.before.before.before.before.before.before.before.before.before, value-in-range c.before.before.before.before.before.before.before, is_sum c.before.before.before.before.before.before, room, ok) (λ j. (done, after j))

@@ -23,11 +23,11 @@ returns-then-not-is_valid c = rw (sym c.is_valid.ensures ∙ c.if-not-is_valid.t
 
 pub returns-then-not-is_valid-2 : goal.returns-then-not-is_valid-2
 unfolding get_real
-returns-then-not-is_valid-2 c = rw (set_valid c.before.before, sym c.is_valid-2.ensures ∙ c.if-not-is_valid-2.true)
+returns-then-not-is_valid-2 c = rw (set_valid c.before.before.before, sym c.is_valid-2.ensures ∙ c.if-not-is_valid-2.true)
 
 pub coefficient_at-requires : goal.coefficient_at-requires
-coefficient_at-requires c = valid-count _ (set_valid c.before.before)
+coefficient_at-requires c = valid-count _ (set_valid c.before.before.before)
 
 pub returns : goal.returns
 unfolding get_real
-returns c = rw (set_valid c.before.before.before, key-valid c.before) (ap (λ (x : Float). gives (complex_of x)) c.coefficient_at.ensures)
+returns c = rw (set_valid c.before.before.before.before, key-valid c.before) (ap (λ (x : Float). gives (complex_of x)) c.coefficient_at.ensures)
