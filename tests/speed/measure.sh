@@ -13,13 +13,14 @@ runs=${3:-10}
 # the Rust, and the proved library with the calls to be timed
 "$here/../oracle/build.sh" "$source" "$work" --profile plain
 "$here/layout.sh" "$root" "$work/proved"
-(cd "$work/proved" && git init -q . && cd crates/timed && rt fmt && rt lib)
+(cd "$work/proved" && git init -q . && cd crates/timed && rt lib)
 
 # both in one program
 mkdir -p "$work/speed"
 cp -R "$here/bench/." "$work/speed/"
 sed -i 's/"driver"\]/"driver", "speed"]/' "$work/Cargo.toml"
-(cd "$work" && TIMED_LIBRARY="$work/proved/crates/timed/out" cargo build --offline --profile plain -p speed)
+export TIMED_LIBRARY="$work/proved/crates/timed/out" HEAP_LIBRARY="$(dirname "$(rt doc)")/c"
+(cd "$work" && cargo build --offline --profile plain -p speed)
 rm -f "$work"/times-*.csv
 for run in $(seq "$runs"); do "$work/target/plain/speed" > "$work/times-$run.csv"; done
 python3 "$here/report.py" "$root/docs" "$work"/times-*.csv

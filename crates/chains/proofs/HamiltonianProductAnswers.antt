@@ -11,19 +11,18 @@ use Rattle.items.specs.Record.{valid}
 use Rattle.terms.proofs.KeyedLaws.{All, all_each}
 use Rattle.terms.proofs.EachLaws.{all_results}
 use Rattle.terms.proofs.AnswerLaws.{Answered, answered_past}
+use Rattle.term_sets.specs.Complexes.{TermSet}
 use Rattle.term_sets.specs.Complexes as complexes
-use Rattle.hamiltonians.specs.Reals.{complex_term, held_by, valid_set}
+use Rattle.hamiltonians.specs.Reals.{RealTerm, complex_term, held_by, valid_set}
 use Rattle.chains.specs.HamiltonianProducts.{multiply_reals, into_operator}
-use Rattle.term_sets.specs.declared.TermSet.{TermSet}
-use Rattle.hamiltonians.specs.declared.pauli_hamiltonian.RealTerm.{RealTerm}
-use Rattle.hamiltonians.specs.declared.pauli_hamiltonian.PauliHamiltonian.{PauliHamiltonian}
+use Rattle.hamiltonians.specs.declared.PauliHamiltonian.{PauliHamiltonian}
 use Rattle.hamiltonians.proofs.RealValidLaws.{valid-products}
 use Rattle.chains.proofs.ValidAnswers.{HasValid, zeros_allowed, chain_answer, times-answer}
 
 -- the terms of a valid Hamiltonian with complex coefficients have valid products
 complex_products_lem : (s : PauliHamiltonian) → valid_set s ≡ true → All HasValid (map complex_term (held_by s))
 complex_products_lem s v =
-    all_results (λ (t : RealTerm). valid t.items ≡ true) HasValid complex_term (λ x h. h) (held_by s) (all_each (λ t. valid t.items) (held_by s) (valid-products s v))
+    all_results (λ (t : RealTerm). valid t.key ≡ true) HasValid complex_term (λ x h. h) (held_by s) (all_each (λ t. valid t.key) (held_by s) (valid-products s v))
 
 module _ (s t : PauliHamiltonian) where
   multiply_answer_lem : Answered (λ x. complexes.valid_set false x ≡ true) (complexes.filled []) (multiply_reals s t)

@@ -1,5 +1,5 @@
-pub mod PassLaws
-pub mod ProductLaws
+pub mod StepLaws
+pub mod ScaleLaws
 pub mod ValidAnswers
 pub mod HamiltonianProductAnswers
 pub mod OperatorTheorems

@@ -6,14 +6,14 @@ use mathlib.Core.Bool.{true}
 use mathlib.Core.List.{List, [], map}
 use Prim.Native.Nat.{ℕ, ◌^◌}
 use native.Mathlib.Nat.{max-le}
-use Rattle.refusal.specs.Refusals.{gives, done}
+use Rattle.refusal.specs.Refusals.{gives}
 use Rattle.letters.specs.Gauss.{G, ◌⊕◌, ◌⊗◌, conj}
 use Rattle.letters.specs.Sums.{Σ}
 use Rattle.letters.specs.Matrices.{Letters, letters_of, matrix}
 use Rattle.letters.specs.Answers.{other}
 use Rattle.letters.specs.declared.Kind.{Kind}
 use Rattle.letters.proofs.GaussLaws.{𝟘_⊕}
-use Rattle.items.specs.Record.{valid, letter_at, same_items}
+use Rattle.items.specs.Record.{letter_at, same_items}
 use Rattle.merging.specs.ProductAnswers.{multiply_answer}
 use Rattle.phases.specs.Answers.{conjugate_answer, convert_answer}
 use Rattle.items.specs.declared.Items.{Items}
@@ -26,20 +26,7 @@ use Rattle.terms.proofs.KeyedLaws.{All}
 use Rattle.terms.proofs.StepLaws.{times_terms, times-given}
 use Rattle.terms.proofs.Totals.{weighted-write, weighted-added, weighted-add_all, weighted-times, weighted-product, weighted-conjugate, weighted-convert, weighted-scaled}
 use Rattle.term_sets.specs.Matrices.{gaussian_terms, matrix_of, Fits}
-
--- ---- the answers on valid products
-
-multiply-done : (M : Letters) (p q : Items) → valid p ≡ true → valid q ≡ true → multiply_answer M p q ≡ (done, (multiply_answer M p q).1)
-unfolding multiply_answer
-multiply-done M p q v w = rw (v, w)
-
-conjugate-done : (M : Letters) (p : Items) → valid p ≡ true → conjugate_answer M p ≡ (done, (conjugate_answer M p).1)
-unfolding conjugate_answer
-conjugate-done M p v = rw v
-
-convert-done : (M M' : Letters) (p : Items) → valid p ≡ true → convert_answer M M' p ≡ (done, (convert_answer M M' p).1)
-unfolding convert_answer
-convert-done M M' p v = rw v
+use Rattle.chains.proofs.StepLaws.{multiply-done, conjugate-done, convert-done}
 
 -- equal products have equal matrices
 respects : (M : Letters) (n r c : ℕ) (p q : Items) → same_items p q ≡ true → matrix M n (letter_at p) r c ≡ matrix M n (letter_at q) r c

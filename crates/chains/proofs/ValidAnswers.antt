@@ -30,12 +30,11 @@ use Rattle.terms.proofs.GoodLaws.{all_good}
 use Rattle.terms.proofs.AnswerLaws.{Answered, answered_past, finally_answered, ended_answered}
 use Rattle.terms.proofs.StepLaws.{giving_terms, times_terms, times-given}
 use Rattle.terms.proofs.ValidSetLaws as laws
-use Rattle.term_sets.specs.Complexes.{complex_terms, complex_products, held_by, filled, good_coefficient, valid_set}
+use Rattle.term_sets.specs.Complexes.{Term, TermSet, complex_terms, complex_products, held_by, filled, good_coefficient, valid_set}
 use Rattle.term_writing.specs.WritingAnswers.{set_term, add_term}
 use Rattle.chains.specs.ChainAnswers.{all_in_range, ended, product_steps, multiply_sets, conjugate_set, convert_set, scale_set, conjugates, conversions}
-use Rattle.term_sets.specs.declared.Term.{Term}
-use Rattle.term_sets.specs.declared.TermSet.{TermSet}
-use Rattle.chains.proofs.PassLaws.{scaled_term}
+use Rattle.chains.proofs.ScaleLaws.{scaled_term}
+use Rattle.chains.proofs.StepLaws.{multiply-done}
 use Rattle.term_sets.proofs.ValidLaws.{valid_term_sets, valid-products}
 
 -- ---- sets where zeros are allowed
@@ -88,11 +87,11 @@ module _ (zeros : Bool) (s : TermSet) (k : Items) (a : Complex) where
 
 -- a term's product is valid
 abbrev pub HasValid : Term → Type 0
-HasValid t = valid t.items ≡ true
+HasValid t = valid t.key ≡ true
 
 -- the terms of a valid set
 pub held_products : (zeros : Bool) (s : TermSet) → valid_set zeros s ≡ true → All HasValid (held_by s)
-held_products zeros s v = all_each (λ t. valid t.items) (held_by s) (valid-products zeros s v)
+held_products zeros s v = all_each (λ t. valid t.key) (held_by s) (valid-products zeros s v)
 
 -- terms with valid products, added to the empty set: what is held is valid and holds no zero, and s stands beside a refusal
 pub chain_answer : (s : TermSet) (ts : List Term) → All HasValid ts → Answered (λ x. valid_set false x ≡ true) s (ended s (add_all complex_terms (map gives ts) []))
@@ -114,14 +113,13 @@ times-valid kind p q v w =
 
 -- no product of valid ones is refused
 times-said : (M : Letters) (p q : Items) → valid p ≡ true → valid q ≡ true → given (multiply_answer M p q) ≡ gives (multiply_answer M p q).1
-unfolding multiply_answer
-times-said M p q v w = rw (v, w)
+times-said M p q v w = ap given (multiply-done M p q v w)
 
 -- the products of the terms of two sets
 times-products : (kind : Kind) (l r : List Term) → All HasValid l → All HasValid r → All HasValid (times_terms complex_terms complex_products (λ p q. (multiply_answer (letters_of kind) p q).1) l r)
 unfolding times_terms
 times-products kind l r hl hr =
-    all_lists HasValid HasValid _ (λ x hx. all_results HasValid HasValid _ (λ y hy. times-valid kind x.items y.items hx hy) r hr) l hl
+    all_lists HasValid HasValid _ (λ x hx. all_results HasValid HasValid _ (λ y hy. times-valid kind x.key y.key hx hy) r hr) l hl
 
 -- their chain
 pub times-answer : (kind : Kind) (s : TermSet) (l r : List Term) → All HasValid l → All HasValid r
@@ -173,7 +171,7 @@ module _ (M : Letters) (zeros : Bool) (s : TermSet) where
 pub conjugate_set-nonzero : (kind : Kind) (zeros : Bool) (s x : TermSet) → conjugate_set (letters_of kind) zeros s ≡ (done, x) → valid_set false x ≡ true
 unfolding conjugate_terms
 conjugate_set-nonzero kind zeros s =
-    (conjugate_answer_lem (letters_of kind) zeros s (λ v. chain_answer s _ (all_results HasValid HasValid _ (λ y hy. conjugated-valid kind y.items hy) (held_by s) (held_products zeros s v)))).holds tt
+    (conjugate_answer_lem (letters_of kind) zeros s (λ v. chain_answer s _ (all_results HasValid HasValid _ (λ y hy. conjugated-valid kind y.key hy) (held_by s) (held_products zeros s v)))).holds tt
 
 -- so number 0 of its kind lets it pass
 pub conjugate_set-valid : (kind : Kind) (zeros : Bool) (s x : TermSet) → conjugate_set (letters_of kind) zeros s ≡ (done, x) → valid_set zeros x ≡ true
@@ -204,7 +202,7 @@ pub convert_set-nonzero : (kind : Kind) (zeros : Bool) (s x : TermSet)
 unfolding convert_terms
 convert_set-nonzero kind zeros s =
     (convert_answer_lem (letters_of kind) (letters_of (other kind)) zeros s
-    (λ v. chain_answer (filled []) _ (all_results HasValid HasValid _ (λ y hy. converted-valid kind y.items hy) (held_by s) (held_products zeros s v)))
+    (λ v. chain_answer (filled []) _ (all_results HasValid HasValid _ (λ y hy. converted-valid kind y.key hy) (held_by s) (held_products zeros s v)))
     ).holds tt
 
 -- so number 0 lets it pass, whether its new kind may hold zeros or not
@@ -218,7 +216,7 @@ convert_set-valid kind zeros zeros' s x e = valid_either zeros' x (convert_set-n
 has-scaled : (a : Complex) (k : Items) (l : List Term) → has (keyed complex_terms k) (map (scaled_term a) l) ≡ has (keyed complex_terms k) l
 unfolding has
 has-scaled a k [] = refl
-has-scaled a k (x ∷ l) = ap (λ (b : Bool). same_items x.items k || b) (has-scaled a k l)
+has-scaled a k (x ∷ l) = ap (λ (b : Bool). same_items x.key k || b) (has-scaled a k l)
 
 -- a valid set's terms times a number, each of them in range
 scaled-valid : (s : TermSet) (a : Complex) → valid_set true s ≡ true → all_in_range (scaled_terms complex_terms complex_products a (held_by s)) ≡ true
@@ -229,9 +227,9 @@ scaled-valid s a v r =
     let w = valid_term_sets true in
     let n = length-map l (scaled_term a) in
     laws.filled-valid w (map (scaled_term a) l) (omega (arith, laws.valid-few w s v))
-    (each_results (λ t ts. valid t.items) (λ t ts. valid t.items) (scaled_term a) (λ x xs e. e) l (valid-products true s v))
+    (each_results (λ t ts. valid t.key) (λ t ts. valid t.key) (scaled_term a) (λ x xs e. e) l (valid-products true s v))
     (each_follows (λ t ts. in_range t.coefficient) (λ t ts. good_coefficient true t.coefficient) (λ t ts h. and_true h refl) (map (scaled_term a) l) r)
-    (each_results (different complex_terms) (different complex_terms) (scaled_term a) (λ x xs e. ap not (has-scaled a x.items xs) ∙ e) l (laws.valid-different w s v))
+    (each_results (different complex_terms) (different complex_terms) (scaled_term a) (λ x xs e. ap not (has-scaled a x.key xs) ∙ e) l (laws.valid-different w s v))
 
 module _ (s : TermSet) (a : Complex) where
   scale_answer : Answered (λ x. valid_set true x ≡ true) s (scale_set s a)

@@ -1,8 +1,9 @@
 -- What the chains of additions on sets with complex coefficients, and their multiples, answer, refusals first in their order: 0, then 5 for a number
 -- given, then at each step its own refusal and 6, and 5 for what is held at the end. `zeros` says whether the set may hold zeros, as a
 -- `PauliOperator` may. Document 01: pauli_operator.rs, decoherence_operator.rs and `Numbers of the no`.
-use Rattle.std.specs.Prelude.{Bool, true, not, cond, List, [], map}
-use Rattle.refusal.specs.Refusals.{Said, gives, refuses}
+use Rattle.std.specs.Prelude.{Result, Bool, true, not, cond, List, [], map}
+use Rattle.refusal.specs.Refusals.{Said, gives, refuses, told_by}
+use Rattle.refusal.specs.declared.Refusal.{Refusal}
 use Rattle.complex.specs.Complex.{in_range}
 use Rattle.complex.specs.declared.Complex.{Complex}
 use Rattle.letters.specs.Matrices.{Letters}
@@ -11,9 +12,11 @@ use Rattle.phases.specs.Answers.{conjugate_answer, convert_answer}
 use Rattle.terms.specs.Setting.{add_all}
 use Rattle.terms.specs.Entries as entries
 use Rattle.terms.specs.Chains.{given, times_steps, conjugate_terms, convert_terms, scaled_terms}
-use Rattle.term_sets.specs.Complexes.{complex_terms, complex_products, held_by, filled, valid_set}
-use Rattle.term_sets.specs.declared.Term.{Term}
-use Rattle.term_sets.specs.declared.TermSet.{TermSet}
+use Rattle.term_sets.specs.Complexes.{Term, TermSet, complex_terms, complex_products, held_by, filled, valid_set}
+
+-- with the set that the caller then has: the answer's, or, refused, the one before
+abbrev pub told : TermSet → Result TermSet Refusal → Said Unit × TermSet
+told before r = told_by before (λ s. s) r
 
 -- every coefficient is in range
 abbrev pub all_in_range : List Term → Bool

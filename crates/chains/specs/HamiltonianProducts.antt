@@ -8,8 +8,8 @@ use Rattle.term_sets.specs.Complexes.{complex_terms}
 use Rattle.term_sets.specs.Complexes as complexes
 use Rattle.chains.specs.ChainAnswers.{ended, product_steps}
 use Rattle.hamiltonians.specs.Reals.{complex_term, held_by, valid_set}
-use Rattle.term_sets.specs.declared.TermSet.{TermSet}
-use Rattle.hamiltonians.specs.declared.pauli_hamiltonian.PauliHamiltonian.{PauliHamiltonian}
+use Rattle.term_sets.specs.Complexes.{TermSet}
+use Rattle.hamiltonians.specs.declared.PauliHamiltonian.{PauliHamiltonian}
 
 -- the product of two Hamiltonians, which is a PauliOperator; the empty operator stands beside a refusal
 unfoldable pub multiply_reals : PauliHamiltonian → PauliHamiltonian → Said Unit × TermSet

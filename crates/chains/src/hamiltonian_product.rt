@@ -1,45 +1,33 @@
 // What Hamiltonians make as complex operators: their products, and themselves.
-ghost use Rattle.std.specs.Prelude.{◌≡◌};
-ghost use Rattle.term_sets.specs.Answers.{told};
+ghost use Rattle.std.specs.Prelude.{◌≡◌, []};
+ghost use Rattle.term_sets.specs.Complexes.{filled};
+ghost use Rattle.chains.specs.ChainAnswers.{told};
 ghost use Rattle.chains.specs.HamiltonianProducts.{multiply_reals, into_operator};
 
 use crate::chain::{collected, multiplied};
-use hamiltonians::pauli_hamiltonian::{PauliHamiltonian, complex_terms};
+use hamiltonians::PauliHamiltonian;
 use letters::Kind;
-use refusal::{Outcome, Refusal};
-use term_sets::{TermSetAnswer, empty_set};
+use refusal::Refusal;
+use term_sets::TermSet;
 
 // The product of two Hamiltonians.
-pub fn multiply(left: PauliHamiltonian, right: PauliHamiltonian) -> TermSetAnswer
-    ensures { told result ≡ multiply_reals left right }
+#[tactic(auto, unfolding(crate::specs::HamiltonianProducts::multiply_reals))]
+pub fn multiply(left: &PauliHamiltonian, right: &PauliHamiltonian) -> Result<TermSet, Refusal>
+    ensures { told (filled []) result ≡ multiply_reals left.now right.now }
 {
-    if !left.is_valid() {
-        return TermSetAnswer {
-            outcome: Outcome::Refused(Refusal::Malformed),
-            set: empty_set(),
-        };
+    if !left.is_valid() || !right.is_valid() {
+        return Err(Refusal::Malformed);
     }
-    if !right.is_valid() {
-        return TermSetAnswer {
-            outcome: Outcome::Refused(Refusal::Malformed),
-            set: empty_set(),
-        };
-    }
-    let s = complex_terms(left);
-    let t = complex_terms(right);
-    multiplied(Kind::Pauli, s, t, empty_set())
+    multiplied(Kind::Pauli, &left.complex_terms(), &right.complex_terms())
 }
 
 // A Hamiltonian as a complex operator.
-pub fn convert(hamiltonian: PauliHamiltonian) -> TermSetAnswer
-    ensures { told result ≡ into_operator hamiltonian }
+#[tactic(auto, unfolding(crate::specs::HamiltonianProducts::into_operator))]
+pub fn convert(hamiltonian: &PauliHamiltonian) -> Result<TermSet, Refusal>
+    ensures { told (filled []) result ≡ into_operator hamiltonian.now }
 {
     if !hamiltonian.is_valid() {
-        return TermSetAnswer {
-            outcome: Outcome::Refused(Refusal::Malformed),
-            set: empty_set(),
-        };
+        return Err(Refusal::Malformed);
     }
-    let s = complex_terms(hamiltonian);
-    collected(s, empty_set())
+    collected(&hamiltonian.complex_terms())
 }

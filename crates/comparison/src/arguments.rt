@@ -2,7 +2,7 @@
 use crate::fault::Fault;
 use crate::forms::Form;
 use crate::reader::Reader;
-use crate::sets::{Set, pauli};
+use crate::sets::Set;
 use spins::{Complex, MOST_TERMS, PauliOperator, Refusal};
 use std::marker::PhantomData;
 
@@ -96,6 +96,6 @@ impl Argument for Scaled {
     type Of = PauliOperator;
 
     fn build(&self) -> Result<PauliOperator, Refusal> {
-        pauli(self.operator.build()?.scale(self.factor))
+        self.operator.build()?.scale(self.factor)
     }
 }

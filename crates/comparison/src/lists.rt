@@ -5,8 +5,8 @@ use crate::fault::Fault;
 use crate::forms::{Form, Place};
 use crate::reader::Reader;
 use crate::replies::Reply;
-use crate::row_answers::{Row, row_agrees};
-use crate::sets::{Set, noise};
+use crate::row_answers::{Row, RowOf};
+use crate::sets::Set;
 use spins::{
     Complex, DecoherenceOperator, PauliHamiltonian, PauliLindbladNoiseOperator,
     PauliLindbladOpenSystem, Refusal, open_row,
@@ -47,21 +47,14 @@ impl Step {
             Step::System(call) => agrees(&mut open.system, *call, told),
             Step::Noise(call) => agrees(&mut open.noise, *call, told),
             Step::Full(left, right, value) => {
-                let ours = full(&mut open.noise, left.build()?, right.build()?, *value);
-                told.agrees(ours)
+                let (left, right) = (left.build()?, right.build()?);
+                let ours = open
+                    .noise
+                    .add_noise_from_full_operators(&left, &right, *value);
+                told.agrees(ours.map(|_| Reply::Done))
             }
         }
     }
-}
-
-fn full(
-    set: &mut PauliLindbladNoiseOperator,
-    left: DecoherenceOperator,
-    right: DecoherenceOperator,
-    value: Complex,
-) -> Result<Reply, Refusal> {
-    *set = noise(set.add_noise_from_full_operators(left, right, value))?;
-    Ok(Reply::Done)
 }
 
 pub(crate) fn compared(reader: &mut Reader<'_>) -> Result<bool, Fault> {
@@ -69,17 +62,19 @@ pub(crate) fn compared(reader: &mut Reader<'_>) -> Result<bool, Fault> {
     let place: Place = reader.read()?;
     let system: Told<PauliHamiltonian> = reader.read()?;
     let noise: Told<PauliLindbladNoiseOperator> = reader.read()?;
-    let row: Row = reader.read()?;
+    let told: Row = reader.read()?;
     reader.end()?;
-    let mut open = PauliLindbladOpenSystem {
-        system: PauliHamiltonian::new(),
-        noise: PauliLindbladNoiseOperator::new(),
-    };
+    let mut open = PauliLindbladOpenSystem::new();
     let mut same = true;
     for (step, reply) in &steps {
         same &= step.agrees(&mut open, *reply)?;
     }
     let sets = open.system.holds(&system.list) && open.noise.holds(&noise.list);
-    let rows = row_agrees(reader.alloc(), open, place, &row, open_row)?;
+    let row = RowOf {
+        set: open,
+        place,
+        told,
+    };
+    let rows = row.agrees(reader.alloc(), open_row)?;
     Ok(same && sets && rows)
 }

@@ -2,14 +2,14 @@
 use crate::arguments::{Argument, Scaled, Told, Written};
 use crate::fault::Fault;
 use crate::reader::Reader;
-use crate::sets::{Set, decoherence, hamiltonian, noise, pauli};
+use crate::sets::Set;
 use spins::{
     DecoherenceOperator, PauliHamiltonian, PauliLindbladNoiseOperator, PauliOperator, Refusal,
     SITE_COUNT, Site,
 };
 
 // A call on a set, beside the terms of what it gives.
-fn unary<A: Argument, R: Set, F: FnOnce(A::Of) -> Result<R, Refusal>>(
+fn unary<A: Argument, R: Set, F: FnOnce(&A::Of) -> Result<R, Refusal>>(
     reader: &mut Reader<'_>,
     call: F,
 ) -> Result<bool, Fault>
@@ -18,12 +18,12 @@ fn unary<A: Argument, R: Set, F: FnOnce(A::Of) -> Result<R, Refusal>>(
     let argument: A = reader.read()?;
     let told: Told<R> = reader.read()?;
     reader.end()?;
-    let ours = call(argument.build()?)?;
+    let ours = call(&argument.build()?)?;
     Ok(ours.holds(&told.list))
 }
 
 // A call on two sets.
-fn binary<A: Argument, R: Set, F: FnOnce(A::Of, A::Of) -> Result<R, Refusal>>(
+fn binary<A: Argument, R: Set, F: FnOnce(&A::Of, &A::Of) -> Result<R, Refusal>>(
     reader: &mut Reader<'_>,
     call: F,
 ) -> Result<bool, Fault>
@@ -32,7 +32,7 @@ fn binary<A: Argument, R: Set, F: FnOnce(A::Of, A::Of) -> Result<R, Refusal>>(
     let (left, right): (A, Written<A::Of>) = reader.read()?;
     let told: Told<R> = reader.read()?;
     reader.end()?;
-    let ours = call(left.build()?, right.build()?)?;
+    let ours = call(&left.build()?, &right.build()?)?;
     Ok(ours.holds(&told.list))
 }
 
@@ -41,48 +41,34 @@ fn remap(reader: &mut Reader<'_>) -> Result<bool, Fault> {
     let targets: [Site; SITE_COUNT] = reader.read()?;
     let told: Told<PauliLindbladNoiseOperator> = reader.read()?;
     reader.end()?;
-    let ours = noise(operator.build()?.remap_qubits(targets))?;
+    let ours = operator.build()?.remap_qubits(targets)?;
     Ok(ours.holds(&told.list))
-}
-
-fn multiply(left: PauliOperator, right: PauliOperator) -> Result<PauliOperator, Refusal> {
-    pauli(left.multiply(right))
-}
-
-fn conjugate(operator: PauliOperator) -> Result<PauliOperator, Refusal> {
-    pauli(operator.hermitian_conjugate())
-}
-
-fn convert(operator: PauliOperator) -> Result<DecoherenceOperator, Refusal> {
-    decoherence(DecoherenceOperator::from_pauli_operator(operator))
 }
 
 pub(crate) fn compared(op: u8, reader: &mut Reader<'_>) -> Result<bool, Fault> {
     match op {
-        21 => binary::<Written<PauliOperator>, _, _>(reader, multiply),
-        22 => binary::<Written<PauliHamiltonian>, _, _>(reader, |l, r| {
-            pauli(PauliOperator::from_hamiltonians(l, r))
-        }),
-        23 => binary::<Written<DecoherenceOperator>, _, _>(
+        21 => binary::<Written<PauliOperator>, _, _>(reader, PauliOperator::multiply),
+        22 => binary::<Written<PauliHamiltonian>, _, _>(reader, PauliOperator::from_hamiltonians),
+        23 => binary::<Written<DecoherenceOperator>, _, _>(reader, DecoherenceOperator::multiply),
+        24 => unary::<Scaled, _, _>(reader, |o| Ok(*o)),
+        34 => unary::<Written<PauliOperator>, _, _>(reader, PauliOperator::hermitian_conjugate),
+        35 => unary::<Written<DecoherenceOperator>, _, _>(
             reader,
-            |l, r| decoherence(l.multiply(r)),
+            DecoherenceOperator::hermitian_conjugate,
         ),
-        24 => unary::<Scaled, _, _>(reader, |o| Ok(o)),
-        34 => unary::<Written<PauliOperator>, _, _>(reader, conjugate),
-        35 => unary::<Written<DecoherenceOperator>, _, _>(reader, |o| {
-            decoherence(o.hermitian_conjugate())
-        }),
-        36 => unary::<Written<PauliOperator>, _, _>(reader, convert),
-        37 => binary::<Scaled, _, _>(reader, multiply),
+        36 => unary::<Written<PauliOperator>, _, _>(
+            reader,
+            DecoherenceOperator::from_pauli_operator,
+        ),
+        37 => binary::<Scaled, _, _>(reader, PauliOperator::multiply),
         39 => remap(reader),
-        45 => unary::<Written<PauliHamiltonian>, _, _>(reader, |h| {
-            hamiltonian(h.hermitian_conjugate())
-        }),
-        46 => unary::<Written<PauliHamiltonian>, _, _>(reader, |h| {
-            pauli(PauliOperator::from_hamiltonian(h))
-        }),
-        47 => unary::<Scaled, _, _>(reader, conjugate),
-        48 => unary::<Scaled, _, _>(reader, convert),
+        45 => unary::<Written<PauliHamiltonian>, _, _>(
+            reader,
+            PauliHamiltonian::hermitian_conjugate,
+        ),
+        46 => unary::<Written<PauliHamiltonian>, _, _>(reader, PauliOperator::from_hamiltonian),
+        47 => unary::<Scaled, _, _>(reader, PauliOperator::hermitian_conjugate),
+        48 => unary::<Scaled, _, _>(reader, DecoherenceOperator::from_pauli_operator),
         _ => Err(Fault::Unparsed),
     }
 }

@@ -3,13 +3,13 @@ use crate::arguments::{Argument, Written};
 use crate::fault::Fault;
 use crate::forms::{Form, Place};
 use crate::reader::Reader;
-use crate::sets::{Set, pauli};
+use crate::sets::Set;
 use observations::buffers::{Buffers, PLACES, Room};
 use observations::records::Same;
 use spins::{
-    Complex, Delivery, PauliHamiltonian, PauliLindbladNoiseOperator, PauliLindbladOpenSystem,
-    PauliOperator, ProductEntry, Refusal, commutator_row, hamiltonian_commutator_row,
-    hamiltonian_row, noise_row, open_row, operator_row,
+    Complex, PauliHamiltonian, PauliLindbladNoiseOperator, PauliLindbladOpenSystem, PauliOperator,
+    ProductEntry, Refusal, commutator_row, hamiltonian_commutator_row, hamiltonian_row, noise_row,
+    open_row, operator_row,
 };
 use std::alloc::Global;
 
@@ -70,75 +70,69 @@ impl Row {
     }
 }
 
-// What a row call answers, as a result.
-fn delivered(answer: Delivery) -> Result<usize, Refusal> {
-    match answer {
-        Delivery::Count(count) => Ok(count),
-        Delivery::Refused(why) => Err(why),
+// The row of a set at a place, as it is written.
+#[derive(Drop)]
+pub(crate) struct RowOf<S> {
+    pub set: S,
+    pub place: Place,
+    pub told: Row,
+}
+
+impl<S> RowOf<S> {
+    // Whether a call delivers this row.
+    pub(crate) fn agrees<
+        F: FnOnce(&S, u32, u64, &mut [u64], &mut [f64], &mut [f64]) -> Result<usize, Refusal>,
+    >(&self, alloc: Global, deliver: F) -> Result<bool, Fault>
+        requires { F.IsAlwaysCallable deliver }
+    {
+        let Place { spins, row } = self.place;
+        let mut buffers = Buffers::new(alloc)?;
+        let (columns, re, im) = buffers.lend(Room::each(PLACES));
+        let count = deliver(&self.set, spins, row, columns, re, im)?;
+        Ok(self.told.is_delivered(count, &buffers))
     }
 }
 
-// Whether the row of a set at a place is the row written.
-pub(crate) fn row_agrees<
-    S: Copy,
-    F: FnOnce(S, u32, u64, &mut [u64], &mut [f64], &mut [f64]) -> Delivery,
->(alloc: Global, set: S, place: Place, told: &Row, deliver: F) -> Result<bool, Fault>
-    requires { F.IsAlwaysCallable deliver }
-{
-    let mut buffers = Buffers::new(alloc)?;
-    let (columns, re, im) = buffers.lend(Room::each(PLACES));
-    let count = delivered(deliver(set, place.spins, place.row, columns, re, im))?;
-    Ok(told.is_delivered(count, &buffers))
-}
-
-fn set_row<S: Set, F: FnOnce(S, u32, u64, &mut [u64], &mut [f64], &mut [f64]) -> Delivery>(
-    reader: &mut Reader<'_>,
-    deliver: F,
-) -> Result<bool, Fault>
-    requires { F.IsAlwaysCallable deliver }
-{
+fn written<S: Set>(reader: &mut Reader<'_>) -> Result<RowOf<S>, Fault> {
     let set: Written<S> = reader.read()?;
     let (place, told) = reader.read()?;
     reader.end()?;
-    row_agrees(reader.alloc(), set.build()?, place, &told, deliver)
+    let set = set.build()?;
+    Ok(RowOf { set, place, told })
 }
 
 // The same where a number after the place multiplies the operator first.
-fn scaled_row<F: FnOnce(PauliOperator, u32, u64, &mut [u64], &mut [f64], &mut [f64]) -> Delivery>(
-    reader: &mut Reader<'_>,
-    deliver: F,
-) -> Result<bool, Fault>
-    requires { F.IsAlwaysCallable deliver }
-{
+fn scaled(reader: &mut Reader<'_>) -> Result<RowOf<PauliOperator>, Fault> {
     let (operator, place): (Written<PauliOperator>, Place) = reader.read()?;
     let (factor, told): (Complex, Row) = reader.read()?;
     reader.end()?;
-    let scaled = pauli(operator.build()?.scale(factor))?;
-    row_agrees(reader.alloc(), scaled, place, &told, deliver)
+    let set = operator.build()?.scale(factor)?;
+    Ok(RowOf { set, place, told })
 }
 
-fn system_row(reader: &mut Reader<'_>) -> Result<bool, Fault> {
+fn system(reader: &mut Reader<'_>) -> Result<RowOf<PauliLindbladOpenSystem>, Fault> {
     let system: Written<PauliHamiltonian> = reader.read()?;
     let noise: Written<PauliLindbladNoiseOperator> = reader.read()?;
     let (place, told) = reader.read()?;
     reader.end()?;
-    let open = PauliLindbladOpenSystem {
+    let set = PauliLindbladOpenSystem {
         system: system.build()?,
         noise: noise.build()?,
     };
-    row_agrees(reader.alloc(), open, place, &told, open_row)
+    Ok(RowOf { set, place, told })
 }
 
 pub(crate) fn compared(op: u8, reader: &mut Reader<'_>) -> Result<bool, Fault> {
+    let alloc = reader.alloc();
     match op {
-        25 => set_row(reader, operator_row),
-        26 => set_row(reader, hamiltonian_row),
-        27 => set_row(reader, commutator_row),
-        28 => set_row(reader, hamiltonian_commutator_row),
-        29 => set_row(reader, noise_row),
-        30 => scaled_row(reader, commutator_row),
-        31 => scaled_row(reader, operator_row),
-        32 => system_row(reader),
+        25 => written(reader)?.agrees(alloc, operator_row),
+        26 => written(reader)?.agrees(alloc, hamiltonian_row),
+        27 => written(reader)?.agrees(alloc, commutator_row),
+        28 => written(reader)?.agrees(alloc, hamiltonian_commutator_row),
+        29 => written(reader)?.agrees(alloc, noise_row),
+        30 => scaled(reader)?.agrees(alloc, commutator_row),
+        31 => scaled(reader)?.agrees(alloc, operator_row),
+        32 => system(reader)?.agrees(alloc, open_row),
         _ => Err(Fault::Unparsed),
     }
 }

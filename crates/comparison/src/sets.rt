@@ -1,18 +1,13 @@
 // The sets that records build and call, by one interface.
 use crate::forms::{Form, Real};
-use observations::records::{Same, complex_terms};
+use observations::records::Same;
 use spins::{
-    Alphabet, Complex, DecoherenceOperator, DecoherenceOperatorAnswer, DecoherenceProduct,
-    GetAnswer, HamiltonianAnswer, NoiseOperatorAnswer, NoiseSet, NoiseTerm, Outcome,
-    PauliHamiltonian, PauliLindbladNoiseOperator, PauliOperator, PauliOperatorAnswer, PauliProduct,
-    Product, Refusal, SetAnswer, Term, TermSet,
+    Alphabet, Complex, Items, Key, Operator, PauliHamiltonian, PauliLindbladNoiseOperator, Refusal,
+    Term,
 };
 
-// The two sides of a noise term.
-pub(crate) type Pair = (DecoherenceProduct, DecoherenceProduct);
-
 pub(crate) trait Set: Copy {
-    type Key: Form + Copy;
+    type Key: Form + Key;
 
     type Value: Form + Copy;
 
@@ -34,68 +29,34 @@ pub(crate) trait Set: Copy {
     }
 }
 
-impl Set for PauliOperator {
-    type Key = PauliProduct;
+impl<K: Alphabet> Set for Operator<K> {
+    type Key = Items;
 
     type Value = Complex;
 
     fn new() -> Self {
-        PauliOperator::new()
+        Operator::new()
     }
 
-    fn set(&mut self, key: PauliProduct, value: Complex) -> Result<Option<Complex>, Refusal> {
-        let a = PauliOperator::set(*self, key, value);
-        *self = a.operator;
-        replaced(a.answer)
+    fn set(&mut self, key: Items, value: Complex) -> Result<Option<Complex>, Refusal> {
+        Operator::set(self, key.into(), value)
     }
 
-    fn add(&mut self, key: PauliProduct, value: Complex) -> Result<(), Refusal> {
-        let a = self.add_operator_product(key, value);
-        *self = a.operator;
-        done(a.outcome)
+    fn add(&mut self, key: Items, value: Complex) -> Result<(), Refusal> {
+        self.add_operator_product(key.into(), value)
     }
 
-    fn get(&self, key: PauliProduct) -> Result<Complex, Refusal> {
-        coefficient(PauliOperator::get(*self, key))
+    fn get(&self, key: Items) -> Result<Complex, Refusal> {
+        Operator::get(self, key.into())
     }
 
-    fn holds(&self, told: &[(PauliProduct, Complex)]) -> bool {
-        self.terms.same(false, &listed(told))
-    }
-}
-
-impl Set for DecoherenceOperator {
-    type Key = DecoherenceProduct;
-
-    type Value = Complex;
-
-    fn new() -> Self {
-        DecoherenceOperator::new()
-    }
-
-    fn set(&mut self, key: DecoherenceProduct, value: Complex) -> Result<Option<Complex>, Refusal> {
-        let a = DecoherenceOperator::set(*self, key, value);
-        *self = a.operator;
-        replaced(a.answer)
-    }
-
-    fn add(&mut self, key: DecoherenceProduct, value: Complex) -> Result<(), Refusal> {
-        let a = self.add_operator_product(key, value);
-        *self = a.operator;
-        done(a.outcome)
-    }
-
-    fn get(&self, key: DecoherenceProduct) -> Result<Complex, Refusal> {
-        coefficient(DecoherenceOperator::get(*self, key))
-    }
-
-    fn holds(&self, told: &[(DecoherenceProduct, Complex)]) -> bool {
+    fn holds(&self, told: &[(Items, Complex)]) -> bool {
         self.terms.same(false, &listed(told))
     }
 }
 
 impl Set for PauliHamiltonian {
-    type Key = PauliProduct;
+    type Key = Items;
 
     type Value = Real;
 
@@ -103,29 +64,26 @@ impl Set for PauliHamiltonian {
         PauliHamiltonian::new()
     }
 
-    fn set(&mut self, key: PauliProduct, value: Real) -> Result<Option<Complex>, Refusal> {
-        let a = PauliHamiltonian::set(*self, key, value.0);
-        *self = a.set;
-        replaced(a.answer)
+    fn set(&mut self, key: Items, value: Real) -> Result<Option<Complex>, Refusal> {
+        PauliHamiltonian::set(self, key.into(), value.0)
     }
 
-    fn add(&mut self, key: PauliProduct, value: Real) -> Result<(), Refusal> {
-        let a = self.add_operator_product(key, value.0);
-        *self = a.set;
-        done(a.outcome)
+    fn add(&mut self, key: Items, value: Real) -> Result<(), Refusal> {
+        self.add_operator_product(key.into(), value.0)
     }
 
-    fn get(&self, key: PauliProduct) -> Result<Complex, Refusal> {
-        coefficient(PauliHamiltonian::get(*self, key))
+    fn get(&self, key: Items) -> Result<Complex, Refusal> {
+        PauliHamiltonian::get(self, key.into())
     }
 
-    fn holds(&self, told: &[(PauliProduct, Complex)]) -> bool {
-        complex_terms(*self).same(false, &listed(told))
+    // The zero records are looked at by number 0.
+    fn holds(&self, told: &[(Items, Complex)]) -> bool {
+        self.is_valid() && self.complex_terms().same(false, &listed(told))
     }
 }
 
 impl Set for PauliLindbladNoiseOperator {
-    type Key = Pair;
+    type Key = (Items, Items);
 
     type Value = Complex;
 
@@ -133,99 +91,36 @@ impl Set for PauliLindbladNoiseOperator {
         PauliLindbladNoiseOperator::new()
     }
 
-    fn set(&mut self, (left, right): Pair, value: Complex) -> Result<Option<Complex>, Refusal> {
-        let a = PauliLindbladNoiseOperator::set(*self, left, right, value);
-        *self = a.operator;
-        replaced(a.answer)
+    fn set(&mut self, key: (Items, Items), value: Complex) -> Result<Option<Complex>, Refusal> {
+        PauliLindbladNoiseOperator::set(self, key.0.into(), key.1.into(), value)
     }
 
-    fn add(&mut self, (left, right): Pair, value: Complex) -> Result<(), Refusal> {
-        let a = self.add_operator_product(left, right, value);
-        *self = a.operator;
-        done(a.outcome)
+    fn add(&mut self, key: (Items, Items), value: Complex) -> Result<(), Refusal> {
+        self.add_operator_product(key.0.into(), key.1.into(), value)
     }
 
-    fn get(&self, (left, right): Pair) -> Result<Complex, Refusal> {
-        coefficient(PauliLindbladNoiseOperator::get(*self, left, right))
+    fn get(&self, key: (Items, Items)) -> Result<Complex, Refusal> {
+        PauliLindbladNoiseOperator::get(self, key.0.into(), key.1.into())
     }
 
-    fn holds(&self, told: &[(Pair, Complex)]) -> bool {
-        self.set.same(false, &listed_pairs(told))
+    fn holds(&self, told: &[((Items, Items), Complex)]) -> bool {
+        self.set.same(false, &listed(told))
     }
 
-    fn has_empty_side((left, right): Pair) -> bool {
-        left.items.count == 0 || right.items.count == 0
+    fn has_empty_side((left, right): (Items, Items)) -> bool {
+        left.count == 0 || right.count == 0
     }
 }
 
 // Terms as a record of terms.
-fn listed<K: Alphabet>(told: &[(Product<K>, Complex)]) -> TermSet {
-    let mut list = PauliOperator::new().terms;
+fn listed<K: Key>(told: &[(K, Complex)]) -> spins::Set<K, Complex> {
+    let mut list = spins::Set::new();
     list.count = told.len();
     for (place, (key, coefficient)) in list.terms.iter_mut().zip(told) {
         *place = Term {
-            items: key.items,
+            key: *key,
             coefficient: *coefficient,
         };
     }
     list
-}
-
-// Pairs as a record of noise terms.
-fn listed_pairs(told: &[(Pair, Complex)]) -> NoiseSet {
-    let mut list = PauliLindbladNoiseOperator::new().set;
-    list.count = told.len();
-    for (place, ((left, right), coefficient)) in list.terms.iter_mut().zip(told) {
-        *place = NoiseTerm {
-            left: left.items,
-            right: right.items,
-            coefficient: *coefficient,
-        };
-    }
-    list
-}
-
-// What the library answers, as results.
-fn replaced(answer: SetAnswer) -> Result<Option<Complex>, Refusal> {
-    match answer {
-        SetAnswer::Replaced(re, im) => Ok(Some(Complex { re, im })),
-        SetAnswer::WasFree => Ok(None),
-        SetAnswer::Refused(why) => Err(why),
-    }
-}
-
-fn coefficient(answer: GetAnswer) -> Result<Complex, Refusal> {
-    match answer {
-        GetAnswer::Coefficient(value) => Ok(value),
-        GetAnswer::Refused(why) => Err(why),
-    }
-}
-
-fn done(outcome: Outcome) -> Result<(), Refusal> {
-    match outcome {
-        Outcome::Done => Ok(()),
-        Outcome::Refused(why) => Err(why),
-    }
-}
-
-pub(crate) fn pauli(answer: PauliOperatorAnswer) -> Result<PauliOperator, Refusal> {
-    done(answer.outcome)?;
-    Ok(answer.operator)
-}
-
-pub(crate) fn decoherence(
-    answer: DecoherenceOperatorAnswer,
-) -> Result<DecoherenceOperator, Refusal> {
-    done(answer.outcome)?;
-    Ok(answer.operator)
-}
-
-pub(crate) fn hamiltonian(answer: HamiltonianAnswer) -> Result<PauliHamiltonian, Refusal> {
-    done(answer.outcome)?;
-    Ok(answer.set)
-}
-
-pub(crate) fn noise(answer: NoiseOperatorAnswer) -> Result<PauliLindbladNoiseOperator, Refusal> {
-    done(answer.outcome)?;
-    Ok(answer.operator)
 }

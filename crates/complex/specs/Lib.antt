@@ -1,2 +1,4 @@
 pub mod Complex
 pub mod Wholes
+pub mod Coefficients
+pub mod PlusZero

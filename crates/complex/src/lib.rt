@@ -2,8 +2,9 @@
 #![tactic(auto)]
 
 ghost use Rattle.std.specs.Prelude.{◌≡◌};
-ghost use Rattle.complex.specs.Complex.{sum_of, product_of, conjugate_of, is_zero, part_in_range, in_range, is_plus_zero, unit_of_I};
+ghost use Rattle.complex.specs.Complex.{product_of, conjugate_of, part_in_range, is_plus_zero, unit_of_I};
 
+pub mod coefficient;
 pub mod whole;
 
 #[derive(Clone, Copy)]
@@ -43,15 +44,6 @@ pub fn unit_of_i(power: u8) -> Complex
 }
 
 impl Complex {
-    pub fn sum(self, other: Complex) -> Complex
-        ensures { result ≡ sum_of self other }
-    {
-        Complex {
-            re: self.re + other.re,
-            im: self.im + other.im,
-        }
-    }
-
     // Four products and two sums, each rounded once.
     pub fn product(self, other: Complex) -> Complex
         ensures { result ≡ product_of self other }
@@ -70,18 +62,16 @@ impl Complex {
             im: -self.im,
         }
     }
+}
 
-    // Whether both parts are +0 or -0.
-    pub fn is_zero(self) -> bool
-        ensures { result ≡ is_zero self }
-    {
-        self.re == 0.0 && self.im == 0.0
-    }
+// A real number, its second part +0.
+impl From<f64> for Complex {
+    ghost use Rattle.std.specs.Prelude.{◌≡◌};
+    ghost use Rattle.complex.specs.Coefficients.{complex_of};
 
-    // Whether number 5 lets this coefficient pass.
-    pub fn in_range(self) -> bool
-        ensures { result ≡ in_range self }
-    {
-        part_in_range(self.re) && part_in_range(self.im)
+    ghost from_gives = { λ x z. z ≡ complex_of x };
+
+    fn from(x: f64) -> Complex {
+        Complex { re: x, im: 0.0 }
     }
 }

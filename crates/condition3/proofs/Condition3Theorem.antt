@@ -12,11 +12,10 @@ use Rattle.items.specs.Record.{reach, same_items, same_key}
 use Rattle.items.specs.declared.Items.{Items}
 use Rattle.terms.specs.Keyed.{each}
 use Rattle.hamiltonians.specs.Reals as reals
-use Rattle.hamiltonians.specs.declared.pauli_hamiltonian.PauliHamiltonian.{PauliHamiltonian}
-use Rattle.noise_sets.specs.Pairs.{Key, is_empty}
+use Rattle.hamiltonians.specs.declared.PauliHamiltonian.{PauliHamiltonian}
+use Rattle.noise_sets.specs.Pairs.{Key, is_empty, NoiseSet}
 use Rattle.noise_sets.specs.Pairs as pairs
-use Rattle.noise_sets.specs.declared.NoiseSet.{NoiseSet}
-use Rattle.noise.specs.declared.pauli_noise_operator.PauliLindbladNoiseOperator.{PauliLindbladNoiseOperator}
+use Rattle.noise.specs.declared.PauliLindbladNoiseOperator.{PauliLindbladNoiseOperator}
 use Rattle.open_system.specs.declared.PauliLindbladOpenSystem.{PauliLindbladOpenSystem}
 use Rattle.open_system.specs.Grouping.{valid_system, together, group_answer}
 use Rattle.hamiltonians.specs.Reals.{hamiltonian_terms}

@@ -17,11 +17,9 @@ use Rattle.terms.specs.Keyed.{each, concat_map}
 use Rattle.terms.proofs.KeyedLaws.{each_head, each_tail}
 use Rattle.rows.specs.Calls.{outside}
 use Rattle.hamiltonians.specs.Reals as reals
-use Rattle.hamiltonians.specs.declared.pauli_hamiltonian.PauliHamiltonian.{PauliHamiltonian}
-use Rattle.noise_sets.specs.Pairs.{Key}
+use Rattle.hamiltonians.specs.declared.PauliHamiltonian.{PauliHamiltonian}
+use Rattle.noise_sets.specs.Pairs.{Key, NoiseTerm, NoiseSet}
 use Rattle.noise_sets.specs.Pairs as pairs
-use Rattle.noise_sets.specs.declared.NoiseTerm.{NoiseTerm}
-use Rattle.noise_sets.specs.declared.NoiseSet.{NoiseSet}
 use Rattle.open_system.specs.declared.PauliLindbladOpenSystem.{PauliLindbladOpenSystem}
 use Rattle.hamiltonians.specs.Reals.{hamiltonian_terms}
 use Rattle.outside_sites.specs.SystemItems.{system_items}
@@ -59,12 +57,12 @@ unfolding each
 inside_both n [] b = refl
 inside_both n (p ∷ a) b = ap (λ t. leb (reach p) n && t) (inside_both n a b) ∙ sym (and_assoc (leb (reach p) n) (inside n a) (inside n b))
 
-inside-sides : (n : ℕ) (l : List NoiseTerm) → inside n (pairs.sides_of l) ≡ each (λ t ts. leb (reach t.left) n && leb (reach t.right) n) l
+inside-sides : (n : ℕ) (l : List NoiseTerm) → inside n (pairs.sides_of l) ≡ each (λ t ts. leb (reach t.key.0) n && leb (reach t.key.1) n) l
 unfolding each pairs.sides_of concat_map
 inside-sides n [] = refl
 inside-sides n (t ∷ l) =
-    ap (λ b. leb (reach t.left) n && (leb (reach t.right) n && b)) (inside-sides n l)
-    ∙ sym (and_assoc (leb (reach t.left) n) (leb (reach t.right) n) (each (λ t ts. leb (reach t.left) n && leb (reach t.right) n) l))
+    ap (λ b. leb (reach t.key.0) n && (leb (reach t.key.1) n && b)) (inside-sides n l)
+    ∙ sym (and_assoc (leb (reach t.key.0) n) (leb (reach t.key.1) n) (each (λ t ts. leb (reach t.key.0) n && leb (reach t.key.1) n) l))
 
 -- ---- the tests of a system's terms are those of its lines
 
@@ -80,13 +78,13 @@ parts_whole l = each (λ x xs. both_whole x.1) l
 module _ (h : PauliHamiltonian) (w : NoiseSet) where
   inside_lines : (n : ℕ) → inside n (system_items (hamiltonian_terms h) (pairs.held_by w)) ≡ (sites_below n (real_lines h) && pair_sites_below n (noise_lines w))
   inside_lines n =
-      inside_both n (map (λ t. t.items) (hamiltonian_terms h)) (pairs.sides_of (pairs.held_by w))
+      inside_both n (map (λ t. t.key) (hamiltonian_terms h)) (pairs.sides_of (pairs.held_by w))
       ∙ ap₂ ◌&&◌
-      (each_map _ (λ t ts. leb (reach t.items) n) (λ p qs. leb (reach p) n) (λ t ts. refl) (hamiltonian_terms h)
-      ∙ each_map reals.complex_term (λ t ts. leb (reach t.items) n) (λ t ts. leb (reach t.items) n) (λ t ts. refl) (reals.held_by h)
-      ∙ sym (each_map _ (λ t ts. leb (reach t.items) n) (λ x xs. leb (reach x.0) n) (λ t ts. refl) (reals.held_by h)))
+      (each_map _ (λ t ts. leb (reach t.key) n) (λ p qs. leb (reach p) n) (λ t ts. refl) (hamiltonian_terms h)
+      ∙ each_map reals.complex_term (λ t ts. leb (reach t.key) n) (λ t ts. leb (reach t.key) n) (λ t ts. refl) (reals.held_by h)
+      ∙ sym (each_map _ (λ t ts. leb (reach t.key) n) (λ x xs. leb (reach x.0) n) (λ t ts. refl) (reals.held_by h)))
       (inside-sides n (pairs.held_by w)
-      ∙ sym (each_map _ (λ t ts. leb (reach t.left) n && leb (reach t.right) n)
+      ∙ sym (each_map _ (λ t ts. leb (reach t.key.0) n && leb (reach t.key.1) n)
       (λ x xs. leb (reach x.0.0) n && leb (reach x.0.1) n) (λ t ts. refl) (pairs.held_by w)))
 
   whole_lines_lem : whole_terms (hamiltonian_terms h) (pairs.held_by w) ≡ (parts_whole (real_lines h) && parts_whole (noise_lines w))

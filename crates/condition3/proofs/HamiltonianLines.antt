@@ -18,7 +18,7 @@ use Rattle.terms.proofs.EachLaws.{each_follows}
 use Rattle.hamiltonians.specs.Reals.{real_terms}
 use Rattle.hamiltonians.specs.Reals as reals
 use Rattle.hamiltonians.specs.RealAnswers.{set_real, add_real}
-use Rattle.hamiltonians.specs.declared.pauli_hamiltonian.PauliHamiltonian.{PauliHamiltonian}
+use Rattle.hamiltonians.specs.declared.PauliHamiltonian.{PauliHamiltonian}
 use Rattle.hamiltonians.proofs.RealSetLaws.{real_sets}
 use Rattle.terms.proofs.ValidSetLaws as valid_sets
 use Rattle.hamiltonians.proofs.RealValidLaws.{valid_hamiltonians}

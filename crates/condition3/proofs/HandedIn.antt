@@ -5,12 +5,10 @@ use native.Mathlib.Omega.{arith}
 use mathlib.Core.Path.{◌≡◌, refl, sym, ap, subst, ◌∙◌}
 use mathlib.Core.Bool.{Bool, true, false, not, ◌||◌, ◌&&◌, or-true, true≢false}
 use mathlib.Core.List.{List, [], ◌∷◌, ◌++◌, map, append-nil, append_assoc}
-use lib.Ieee.{eq}
 use lib.ListN.{length, length-append}
 use borrow.Author.Tests.{lt-ltb, not-true}
 use Rattle.letters.proofs.TestLaws.{and_true, and_left, and_right}
-use Rattle.complex.specs.Complex.{plus_zero, part_in_range, is_zero, in_range}
-use Rattle.items.specs.Record.{valid}
+use Rattle.complex.specs.Coefficients.{Coefficients, reals, complexes}
 use Rattle.terms.specs.Keyed.{has, each}
 use Rattle.terms.specs.Kind.{Terms}
 use Rattle.terms.specs.Setting.{most_terms, keyed, write, has_room}
@@ -20,23 +18,19 @@ use Rattle.condition3.proofs.RunLaws.{run_append}
 use Rattle.terms.specs.Places.{good_term}
 use Rattle.terms.proofs.GoodLaws.{good_key_lem, good_coefficient_lem, good_different, good_keys, good_coefficients, good_differents}
 use Rattle.terms.proofs.SettingLaws.{Alike, different, write-other}
-use Rattle.terms.proofs.FilledLaws.{held-filled}
-use Rattle.hamiltonians.specs.Reals.{real_terms}
-use Rattle.hamiltonians.specs.Reals as reals
+use Rattle.terms.proofs.FilledLaws.{held_in, held-filled}
+use Rattle.term_sets.specs.Sets.{good_coefficient}
+use Rattle.hamiltonians.specs.Reals.{RealTerm}
+use Rattle.hamiltonians.specs.Reals as hamiltonians
 use Rattle.hamiltonians.specs.RealAnswers.{set_real}
-use Rattle.hamiltonians.specs.declared.pauli_hamiltonian.RealTerm.{RealTerm}
-use Rattle.hamiltonians.specs.declared.pauli_hamiltonian.PauliHamiltonian.{PauliHamiltonian}
-use Rattle.hamiltonians.proofs.RealSetLaws.{real_sets}
+use Rattle.hamiltonians.specs.declared.PauliHamiltonian.{PauliHamiltonian}
 use Rattle.hamiltonians.proofs.RealValidLaws.{valid_hamiltonians}
 use Rattle.hamiltonians.proofs.RealValidLaws as real_valid
+use Rattle.terms.proofs.ValidSetLaws.{ValidSets}
 use Rattle.terms.proofs.ValidSetLaws as valid_sets
-use Rattle.noise_sets.specs.Pairs.{pair_terms}
+use Rattle.noise_sets.specs.Pairs.{NoiseTerm, NoiseSet}
 use Rattle.noise_sets.specs.Pairs as pairs
-use Rattle.noise_sets.specs.Answers.{valid_key, empty_side}
-use Rattle.noise_writing.specs.WritingAnswers.{set_pair}
-use Rattle.noise_sets.specs.declared.NoiseTerm.{NoiseTerm}
-use Rattle.noise_sets.specs.declared.NoiseSet.{NoiseSet}
-use Rattle.noise_sets.proofs.SetLaws.{noise_sets}
+use Rattle.noise_sets.specs.Answers.{valid_key, empty_side, set_pair}
 use Rattle.noise_sets.proofs.ValidLaws.{valid_noise_sets}
 use Rattle.noise_sets.proofs.ValidLaws as pairs_valid
 use Rattle.condition3.specs.Calls.{set_hamiltonian, set_noise, called, sets_after, calls_that_set}
@@ -117,53 +111,66 @@ module _ {A C O : Type 0} (step : C → O → O) (call : A → C) (state : List 
       ∙ run_appends (l ++ t ∷ []) r (subst Whole (sym (append_assoc l (t ∷ []) r)) w)
       ∙ ap state (append_assoc l (t ∷ []) r)
 
--- ---- a Hamiltonian's terms
+-- ---- the next term of a valid set, set under its own key
+
+-- a coefficient that a set without zeros may hold
+in_range_nonzero : {N : Type 0} (c : Coefficients N) (a : N) → good_coefficient c false a ≡ true → (c.in_range a ≡ true) × (c.is_zero a ≡ false)
+in_range_nonzero c a e = (and_left (c.in_range a) (not (c.is_zero a)) e, not-true (c.is_zero a) (and_right (c.in_range a) (not (c.is_zero a)) e))
 
 -- what the terms of a valid set have
-abbrev RealTerms : List RealTerm → Type 0
-RealTerms l = (length l ≤ most_terms) × (each reals.good_term l ≡ true)
+abbrev Fit : {K N R : Type 0} {S : Terms K N} → ValidSets S R → List S.Term → Type 0
+Fit {S = S} W l = (length l ≤ most_terms) × (each (good_term S W.good_key W.good_coefficient) l ≡ true)
 
-set_real_new : (w : NoiseSet) (l : List RealTerm) (t : RealTerm) (r : List RealTerm) → RealTerms (l ++ t ∷ r)
-    → called (set_hamiltonian t.items t.coefficient) (record { hamiltonian = reals.filled l; noise = w }) ≡ record { hamiltonian = reals.filled (l ++ t ∷ []); noise = w }
+-- the terms l make a valid set, and t can be set in it, at the end
+record Next {K N R : Type 0} {S : Terms K N} (W : ValidSets S R) (l : List S.Term) (t : S.Term) : Type 0 where
+  before : W.valid (W.sets.filled l) ≡ true
+  key : W.good_key (S.key t) ≡ true
+  range : W.in_range (S.coefficient t) ≡ true
+  room : has_room S (S.key t) (S.coefficient t) (held_in W.sets (W.sets.filled l)) ≡ true
+  written : write S (S.key t) (S.coefficient t) (held_in W.sets (W.sets.filled l)) ≡ l ++ t ∷ []
+
+-- `apart` says that a good coefficient is in range and not zero; terms are their keys and coefficients
+next : {K N R : Type 0} {S : Terms K N} (W : ValidSets S R) → ((a : N) → W.good_coefficient a ≡ true → (W.in_range a ≡ true) × (S.is_zero a ≡ false))
+    → ((t : S.Term) → S.term (S.key t) (S.coefficient t) ≡ t) → (l : List S.Term) (t : S.Term) (r : List S.Term) → Fit W (l ++ t ∷ r) → Next W l t
+next {K} {N} {S = S} W apart own l t r g =
+    let b = good_before S W.good_key W.good_coefficient l (t ∷ r) g.1 in
+    record {
+      before =
+          valid_sets.filled-valid W l (omega (arith, g.0, length-append l (t ∷ r)))
+          (good_keys S W.good_key W.good_coefficient l b) (good_coefficients S W.good_key W.good_coefficient l b) (good_differents S W.good_key W.good_coefficient l b);
+      key = good_key_lem S W.good_key W.good_coefficient t r here;
+      range = c.0;
+      room = ap (has_room S k a) held ∙ room_for_new S k a l (omega (arith, g.0, length-append l (t ∷ r)));
+      written =
+          ap (write S k a) held
+          ∙ write_new S k a l c.1 (none_before S W.alike l t r (good_differents S W.good_key W.good_coefficient (l ++ t ∷ r) g.1))
+          ∙ ap (λ x. l ++ x ∷ []) (own t);
+    }
+  where
+    k : K
+    k = S.key t
+
+    a : N
+    a = S.coefficient t
+
+    here : good_term S W.good_key W.good_coefficient t r ≡ true
+    here = each_there S (good_term S W.good_key W.good_coefficient) l t r g.1
+
+    c : (W.in_range a ≡ true) × (S.is_zero a ≡ false)
+    c = apart a (good_coefficient_lem S W.good_key W.good_coefficient t r here)
+
+    held : held_in W.sets (W.sets.filled l) ≡ l
+    held = held-filled W.sets l
+
+-- of a Hamiltonian
+set_real_new : (w : NoiseSet) (l : List RealTerm) (t : RealTerm) (r : List RealTerm) → Fit valid_hamiltonians (l ++ t ∷ r)
+    → called (set_hamiltonian t.key t.coefficient) (record { hamiltonian = hamiltonians.filled l; noise = w }) ≡ record { hamiltonian = hamiltonians.filled (l ++ t ∷ []); noise = w }
 unfolding called set_real
 set_real_new w l t r g =
-    ap (λ h. record { hamiltonian = h; noise = w })
-    (rw (v, good_key_lem real_terms valid reals.good_coefficient t r here, and_left (part_in_range t.coefficient) (not (eq t.coefficient plus_zero)) c, room) refl
-    ∙ ap reals.filled (ap (write real_terms t.items t.coefficient) held ∙ write_new real_terms t.items t.coefficient l nonzero free))
-  where
-    here : reals.good_term t r ≡ true
-    here = each_there real_terms reals.good_term l t r g.1
+    let n = next valid_hamiltonians (in_range_nonzero reals) (λ t. refl) l t r g in
+    ap (λ h. record { hamiltonian = h; noise = w }) (rw (n.before, n.key, n.range, n.room) refl ∙ ap hamiltonians.filled n.written)
 
-    c : reals.good_coefficient t.coefficient ≡ true
-    c = good_coefficient_lem real_terms valid reals.good_coefficient t r here
-
-    v : reals.valid_set (reals.filled l) ≡ true
-    v =
-        let b = good_before real_terms valid reals.good_coefficient l (t ∷ r) g.1 in
-        valid_sets.filled-valid valid_hamiltonians l (omega (arith, g.0, length-append l (t ∷ r)))
-        (good_keys real_terms valid reals.good_coefficient l b) (good_coefficients real_terms valid reals.good_coefficient l b) (good_differents real_terms valid reals.good_coefficient l b)
-
-    held : reals.held_by (reals.filled l) ≡ l
-    held = held-filled real_sets l
-
-    nonzero : eq t.coefficient plus_zero ≡ false
-    nonzero = not-true (eq t.coefficient plus_zero) (and_right (part_in_range t.coefficient) (not (eq t.coefficient plus_zero)) c)
-
-    free : has (keyed real_terms t.items) l ≡ false
-    free = none_before real_terms valid_hamiltonians.alike l t r (good_differents real_terms valid reals.good_coefficient (l ++ t ∷ r) g.1)
-
-    room : has_room real_terms t.items t.coefficient (reals.held_by (reals.filled l)) ≡ true
-    room = ap (has_room real_terms t.items t.coefficient) held ∙ room_for_new real_terms t.items t.coefficient l (omega (arith, g.0, length-append l (t ∷ r)))
-
--- ---- a noise set's terms
-
-abbrev PairTerms : List NoiseTerm → Type 0
-PairTerms l = (length l ≤ most_terms) × (each pairs.good_term l ≡ true)
-
--- a good key has two valid products and no empty side
-key-valid : (k : pairs.Key) → pairs.good_key k ≡ true → valid_key k ≡ true
-key-valid k e = and_left (valid_key k) (not (pairs.is_empty k.0) && not (pairs.is_empty k.1)) e
-
+-- of a noise set, where a good key has two valid products and no empty side
 no_empty_side : (k : pairs.Key) → pairs.good_key k ≡ true → empty_side k ≡ false
 no_empty_side k e = go (pairs.is_empty k.0) (pairs.is_empty k.1) (and_right (valid_key k) (not (pairs.is_empty k.0) && not (pairs.is_empty k.1)) e)
   where
@@ -171,54 +178,24 @@ no_empty_side k e = go (pairs.is_empty k.0) (pairs.is_empty k.1) (and_right (val
     go true b e = sym e
     go false b e = not-true b e
 
-set_pair_new : (h : PauliHamiltonian) (l : List NoiseTerm) (t : NoiseTerm) (r : List NoiseTerm) → PairTerms (l ++ t ∷ r)
-    → called (set_noise (t.left, t.right) t.coefficient) (record { hamiltonian = h; noise = pairs.filled l }) ≡ record { hamiltonian = h; noise = pairs.filled (l ++ t ∷ []) }
+set_pair_new : (h : PauliHamiltonian) (l : List NoiseTerm) (t : NoiseTerm) (r : List NoiseTerm) → Fit valid_noise_sets (l ++ t ∷ r)
+    → called (set_noise t.key t.coefficient) (record { hamiltonian = h; noise = pairs.filled l }) ≡ record { hamiltonian = h; noise = pairs.filled (l ++ t ∷ []) }
 unfolding called set_pair
 set_pair_new h l t r g =
-    ap (λ w. record { hamiltonian = h; noise = w })
-    (rw (v, key-valid k good, no_empty_side k good, and_left (in_range t.coefficient) (not (is_zero t.coefficient)) c, room) refl
-    ∙ ap pairs.filled (ap (write pair_terms k t.coefficient) held ∙ write_new pair_terms k t.coefficient l nonzero free))
-  where
-    k : pairs.Key
-    k = (t.left, t.right)
-
-    here : pairs.good_term t r ≡ true
-    here = each_there pair_terms pairs.good_term l t r g.1
-
-    good : pairs.good_key k ≡ true
-    good = good_key_lem pair_terms pairs.good_key pairs.good_coefficient t r here
-
-    c : pairs.good_coefficient t.coefficient ≡ true
-    c = good_coefficient_lem pair_terms pairs.good_key pairs.good_coefficient t r here
-
-    v : pairs.valid_set (pairs.filled l) ≡ true
-    v =
-        let b = good_before pair_terms pairs.good_key pairs.good_coefficient l (t ∷ r) g.1 in
-        valid_sets.filled-valid valid_noise_sets l (omega (arith, g.0, length-append l (t ∷ r)))
-        (good_keys pair_terms pairs.good_key pairs.good_coefficient l b) (good_coefficients pair_terms pairs.good_key pairs.good_coefficient l b) (good_differents pair_terms pairs.good_key pairs.good_coefficient l b)
-
-    held : pairs.held_by (pairs.filled l) ≡ l
-    held = held-filled noise_sets l
-
-    nonzero : is_zero t.coefficient ≡ false
-    nonzero = not-true (is_zero t.coefficient) (and_right (in_range t.coefficient) (not (is_zero t.coefficient)) c)
-
-    free : has (keyed pair_terms k) l ≡ false
-    free = none_before pair_terms valid_noise_sets.alike l t r (good_differents pair_terms pairs.good_key pairs.good_coefficient (l ++ t ∷ r) g.1)
-
-    room : has_room pair_terms k t.coefficient (pairs.held_by (pairs.filled l)) ≡ true
-    room = ap (has_room pair_terms k t.coefficient) held ∙ room_for_new pair_terms k t.coefficient l (omega (arith, g.0, length-append l (t ∷ r)))
+    let n = next valid_noise_sets (in_range_nonzero complexes) (λ t. refl) l t r g in
+    let valid = and_left (valid_key t.key) (not (pairs.is_empty t.key.0) && not (pairs.is_empty t.key.1)) n.key in
+    ap (λ w. record { hamiltonian = h; noise = w }) (rw (n.before, valid, no_empty_side t.key n.key, n.range, n.room) refl ∙ ap pairs.filled n.written)
 
 -- ---- both
 
-pub set_again : (h : PauliHamiltonian) (w : NoiseSet) → reals.valid_set h ≡ true → pairs.valid_set w ≡ true → sets_after (calls_that_set h w) ≡ record { hamiltonian = h; noise = w }
+pub set_again : (h : PauliHamiltonian) (w : NoiseSet) → hamiltonians.valid_set h ≡ true → pairs.valid_set w ≡ true → sets_after (calls_that_set h w) ≡ record { hamiltonian = h; noise = w }
 unfolding sets_after calls_that_set
 set_again h w v u =
     let a = real_valid.valid-parts h v in
     let b = pairs_valid.valid-parts w u in
-    run_append called (map _ (reals.held_by h)) (map _ (pairs.held_by w)) _
+    run_append called (map _ (hamiltonians.held_by h)) (map _ (pairs.held_by w)) _
     ∙ ap (run called (map _ (pairs.held_by w)))
-    (run_appends called (λ t. set_hamiltonian t.items t.coefficient) (λ l. record { hamiltonian = reals.filled l; noise = pairs.filled [] }) RealTerms (set_real_new (pairs.filled [])) [] (reals.held_by h) (valid_sets.valid-few valid_hamiltonians h v, a.good)
+    (run_appends called (λ t. set_hamiltonian t.key t.coefficient) (λ l. record { hamiltonian = hamiltonians.filled l; noise = pairs.filled [] }) (Fit valid_hamiltonians) (set_real_new (pairs.filled [])) [] (hamiltonians.held_by h) (valid_sets.valid-few valid_hamiltonians h v, a.good)
     ∙ ap (λ x. record { hamiltonian = x; noise = pairs.filled [] }) (sym (real_valid.valid_own h v)))
-    ∙ run_appends called (λ t. set_noise (t.left, t.right) t.coefficient) (λ l. record { hamiltonian = h; noise = pairs.filled l }) PairTerms (set_pair_new h) [] (pairs.held_by w) (valid_sets.valid-few valid_noise_sets w u, b.good)
+    ∙ run_appends called (λ t. set_noise t.key t.coefficient) (λ l. record { hamiltonian = h; noise = pairs.filled l }) (Fit valid_noise_sets) (set_pair_new h) [] (pairs.held_by w) (valid_sets.valid-few valid_noise_sets w u, b.good)
     ∙ ap (λ x. record { hamiltonian = h; noise = x }) (sym (pairs_valid.valid_own w u))

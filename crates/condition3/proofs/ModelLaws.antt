@@ -5,6 +5,7 @@ use mathlib.Core.Bool.{true}
 use mathlib.Core.List.{List, [], ◌∷◌}
 use Rattle.items.specs.Record.{same_items, same_key}
 use Rattle.condition3.specs.Runs.{run}
+use Rattle.term_sets.specs.Sets.{filled}
 use Rattle.hamiltonians.specs.Reals as reals
 use Rattle.term_sets.specs.Complexes as operators
 use Rattle.hamiltonians.proofs.RealValidLaws as real_valid
@@ -22,7 +23,7 @@ pub record Holds (s : Sets) (m : Model) : Type 0 where
   pub noise : noise_lines s.noise ≡ m.noise
 
 holds_new : Holds new_sets empty_model
-unfolding reals.filled pairs.filled
+unfolding filled
 holds_new = record { hamiltonian-valid = real_valid.empty-valid; noise-valid = pairs_valid.empty-valid; hamiltonian = refl; noise = refl }
 
 holds_call : (c : Call) (s : Sets) (m : Model) → Holds s m → Holds (called c s) (noted c m)

@@ -19,16 +19,11 @@ use Rattle.terms.specs.Chains.{full_terms}
 use Rattle.terms.specs.Entries as entries
 use Rattle.terms.proofs.KeyedLaws.{map_append}
 use Rattle.terms.proofs.EachLaws.{each_follows}
-use Rattle.term_sets.specs.Complexes.{complex_terms, complex_products}
+use Rattle.term_sets.specs.Complexes.{complex_terms, complex_products, Term, TermSet}
 use Rattle.term_sets.specs.Complexes as operators
-use Rattle.term_sets.specs.declared.Term.{Term}
-use Rattle.term_sets.specs.declared.TermSet.{TermSet}
-use Rattle.noise_sets.specs.Pairs.{Key, pair_terms, is_empty, held_by, good_coefficient, valid_set}
-use Rattle.noise_sets.specs.Answers.{valid_key, empty_side}
-use Rattle.noise_writing.specs.WritingAnswers.{set_pair, add_pair, all_in_range, ended}
+use Rattle.noise_sets.specs.Pairs.{Key, pair_terms, is_empty, held_by, good_coefficient, valid_set, NoiseTerm, NoiseSet}
+use Rattle.noise_sets.specs.Answers.{valid_key, empty_side, set_pair, add_pair, all_in_range, ended}
 use Rattle.full_operators.specs.FullAnswers.{add_full_operators}
-use Rattle.noise_sets.specs.declared.NoiseTerm.{NoiseTerm}
-use Rattle.noise_sets.specs.declared.NoiseSet.{NoiseSet}
 use Rattle.terms.proofs.FilledLaws.{held-filled}
 use Rattle.noise_sets.proofs.SetLaws.{noise_sets}
 use Rattle.terms.proofs.ValidSetLaws as valid_sets
@@ -121,7 +116,7 @@ lines_concat f g h (x ∷ l) = map_append (line_of pair_terms itself) (f x) (con
 
 full_lines_lem : (z : Complex) (l r : List Term) → lines_of pair_terms itself (full_terms complex_terms pair_terms complex_products is_empty z l r) ≡ full_lines z l r
 unfolding full_terms full_lines
-full_lines_lem z l r = lines_concat _ _ (λ x. lines_concat _ _ (λ y. line_pair (is_empty x.items) (is_empty y.items) _) r) l
+full_lines_lem z l r = lines_concat _ _ (λ x. lines_concat _ _ (λ y. line_pair (is_empty x.key) (is_empty y.key) _) r) l
 
 module _ (s : NoiseSet) (l r : TermSet) (z : Complex) (v : valid_set s ≡ true) where
   -- the terms that the call adds, and what they make of the lines

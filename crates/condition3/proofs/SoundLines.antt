@@ -23,13 +23,12 @@ use Rattle.terms.proofs.EachLaws.{each_follows, each_both}
 use Rattle.term_sets.specs.Matrices.{Fits}
 use Rattle.hamiltonians.specs.Reals.{real_terms}
 use Rattle.hamiltonians.specs.Reals as reals
-use Rattle.hamiltonians.specs.declared.pauli_hamiltonian.PauliHamiltonian.{PauliHamiltonian}
+use Rattle.hamiltonians.specs.declared.PauliHamiltonian.{PauliHamiltonian}
 use Rattle.terms.proofs.ValidSetLaws as valid_sets
 use Rattle.hamiltonians.proofs.RealValidLaws.{valid_hamiltonians}
 use Rattle.hamiltonians.proofs.RealValidLaws as real_valid
-use Rattle.noise_sets.specs.Pairs.{Key, pair_terms, is_empty}
+use Rattle.noise_sets.specs.Pairs.{Key, pair_terms, is_empty, NoiseSet}
 use Rattle.noise_sets.specs.Pairs as pairs
-use Rattle.noise_sets.specs.declared.NoiseSet.{NoiseSet}
 use Rattle.noise_sets.proofs.ValidLaws.{valid_noise_sets}
 use Rattle.noise_sets.proofs.ValidLaws as pairs_valid
 use Rattle.open_rows.proofs.SystemTheorems.{FitsPair}
@@ -74,7 +73,7 @@ sound_lines same good lines g d z w = record {
 module _ (n : ℕ) (s : PauliHamiltonian) (v : reals.valid_set s ≡ true) where
   real_different : each (λ x xs. not (has_line same_items x.0 xs)) (real_lines s) ≡ true
   real_different =
-      each_map _ (different real_terms) (λ x xs. not (has_line same_items x.0 xs)) (λ t ts. ap not (has_lines real_terms real_part t.items ts)) (reals.held_by s)
+      each_map _ (different real_terms) (λ x xs. not (has_line same_items x.0 xs)) (λ t ts. ap not (has_lines real_terms real_part t.key ts)) (reals.held_by s)
       ∙ valid_sets.valid-different valid_hamiltonians s v
 
   real_nonzero : each (λ x xs. not (is_zero x.1)) (real_lines s) ≡ true
@@ -84,7 +83,7 @@ module _ (n : ℕ) (s : PauliHamiltonian) (v : reals.valid_set s ≡ true) where
       (λ t ts e. ap not (is_zero_real t.coefficient) ∙ and_right (part_in_range t.coefficient) (not (eq t.coefficient plus_zero)) e) (reals.held_by s) (valid_sets.valid-coefficients valid_hamiltonians s v)
 
   real_products : each (λ x xs. valid x.0) (real_lines s) ≡ true
-  real_products = each_map _ (λ t ts. valid t.items) (λ x xs. valid x.0) (λ t ts. refl) (reals.held_by s) ∙ real_valid.valid-products s v
+  real_products = each_map _ (λ t ts. valid t.key) (λ x xs. valid x.0) (λ t ts. refl) (reals.held_by s) ∙ real_valid.valid-products s v
 
   pub sound_hamiltonian : each (λ x xs. leb (reach x.0) n) (real_lines s) ≡ true → each (λ x xs. not (is_empty x.0)) (real_lines s) ≡ true → each (λ x xs. both_whole x.1) (real_lines s) ≡ true
       → SoundTerms same_items (on_spins n) (whole_lines (real_lines s))
@@ -100,7 +99,7 @@ module _ (n : ℕ) (s : PauliHamiltonian) (v : reals.valid_set s ≡ true) where
 module _ (n : ℕ) (s : NoiseSet) (v : pairs.valid_set s ≡ true) where
   pair_different : each (λ x xs. not (has_line same_key x.0 xs)) (noise_lines s) ≡ true
   pair_different =
-      each_map _ (different pair_terms) (λ x xs. not (has_line same_key x.0 xs)) (λ t ts. ap not (has_lines pair_terms itself (t.left, t.right) ts)) (pairs.held_by s)
+      each_map _ (different pair_terms) (λ x xs. not (has_line same_key x.0 xs)) (λ t ts. ap not (has_lines pair_terms itself t.key ts)) (pairs.held_by s)
       ∙ valid_sets.valid-different valid_noise_sets s v
 
   pair_nonzero : each (λ x xs. not (is_zero x.1)) (noise_lines s) ≡ true
@@ -109,7 +108,7 @@ module _ (n : ℕ) (s : NoiseSet) (v : pairs.valid_set s ≡ true) where
       (λ t ts e. and_right (in_range t.coefficient) (not (is_zero t.coefficient)) e) (pairs.held_by s) (valid_sets.valid-coefficients valid_noise_sets s v)
 
   pair_keys : each (λ x xs. pairs.good_key x.0) (noise_lines s) ≡ true
-  pair_keys = each_map _ (λ t ts. pairs.good_key (t.left, t.right)) (λ x xs. pairs.good_key x.0) (λ t ts. refl) (pairs.held_by s) ∙ pairs_valid.valid-keys s v
+  pair_keys = each_map _ (λ t ts. pairs.good_key t.key) (λ x xs. pairs.good_key x.0) (λ t ts. refl) (pairs.held_by s) ∙ pairs_valid.valid-keys s v
 
   -- a good key whose sites are below n
   key-on_spins : (k : Key) → pairs.good_key k ≡ true → (leb (reach k.0) n && leb (reach k.1) n) ≡ true → pair_on_spins n k ≡ true

@@ -20,15 +20,15 @@ use Rattle.terms.specs.Keyed.{held, has, written, each, concat_map}
 use Rattle.condition3.specs.Runs.{run}
 use Rattle.terms.specs.Setting.{write, has_room}
 use Rattle.terms.specs.Places.{good_term, valid_places}
+use Rattle.term_sets.specs.Sets.{filled, is_blank, valid_set}
 use Rattle.master_equation.specs.Equation.{𝟚}
 use Rattle.master_equation.specs.Contributions.{commutator_terms, noise_terms}
 use Rattle.rows.specs.Placing.{placed, place_all, row_of, nonzero, kept_by, row_in}
 use Rattle.rows.specs.Calls.{outside, unless_outside, checked_row}
 use Rattle.exact_sums.specs.ExactSums.{whole}
-use Rattle.hamiltonians.specs.Reals as reals
 use Rattle.hamiltonians.specs.RealAnswers.{set_real}
-use Rattle.noise_sets.specs.Pairs as pairs
-use Rattle.noise_writing.specs.WritingAnswers.{set_pair}
+use Rattle.noise_sets.specs.Pairs.{sides_of}
+use Rattle.noise_sets.specs.Answers.{set_pair}
 use Rattle.open_system.specs.Grouping.{valid_system, group_answer}
 use Rattle.exact_rows.specs.ExactRows.{gauss_of, exact_contributions, whole_terms, unless_not_whole, exact_row_of_terms, exact_row}
 use Rattle.condition3.specs.Calls.{called, sets_after}
@@ -46,11 +46,11 @@ listing =
 
 pub worked_rows : map (exact_row (system_after worked) 1) (0 ∷ 1 ∷ 2 ∷ 3 ∷ []) ≡ map gives listing
 unfolding system_after sets_after run called set_real set_pair group_answer valid_system
-    exact_row exact_row_of_terms checked_row unless_outside unless_not_whole outside pairs.sides_of whole_terms exact_contributions gauss_of parts_of both_whole
+    exact_row exact_row_of_terms checked_row unless_outside unless_not_whole outside whole_terms exact_contributions gauss_of parts_of both_whole
     of_int of_bits eq at_most part_in_range in_range is_zero is_plus_zero
     every first_from 𝟘 𝟙 −𝟙 i⁺ i⁻ ◌⊕◌ ◌⊗◌ i^ eqℤ eq_G total two_by_two pauli decoherence bit cell column_of row_power
     padded same_list place_valid in_shape valid lookup letter_at reach record_of same_items support empty_product
     held has written each concat_map write has_room good_term valid_places
-    reals.filled reals.is_blank reals.valid_set pairs.filled pairs.is_blank pairs.valid_set
+    filled is_blank valid_set sides_of
     𝟚 commutator_terms noise_terms placed place_all row_of nonzero kept_by row_in
 worked_rows = refl

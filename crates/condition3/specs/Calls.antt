@@ -7,13 +7,12 @@ use Rattle.items.specs.declared.Items.{Items}
 use Rattle.condition3.specs.Runs.{run}
 use Rattle.hamiltonians.specs.Reals as reals
 use Rattle.hamiltonians.specs.RealAnswers.{set_real, add_real}
-use Rattle.term_sets.specs.declared.TermSet.{TermSet}
-use Rattle.hamiltonians.specs.declared.pauli_hamiltonian.PauliHamiltonian.{PauliHamiltonian}
-use Rattle.noise_sets.specs.Pairs.{Key}
+use Rattle.term_sets.specs.Complexes.{TermSet}
+use Rattle.hamiltonians.specs.declared.PauliHamiltonian.{PauliHamiltonian}
+use Rattle.noise_sets.specs.Pairs.{Key, NoiseSet}
 use Rattle.noise_sets.specs.Pairs as pairs
-use Rattle.noise_writing.specs.WritingAnswers.{set_pair, add_pair}
+use Rattle.noise_sets.specs.Answers.{set_pair, add_pair}
 use Rattle.full_operators.specs.FullAnswers.{add_full_operators}
-use Rattle.noise_sets.specs.declared.NoiseSet.{NoiseSet}
 
 -- a call: "its name, which of the two sets it is on and its other arguments", as the entry takes them, valid or not
 pub data Call : Type 0 where
@@ -47,4 +46,4 @@ sets_after calls = run called calls new_sets
 -- "A system handed in that number 0 lets pass stands for the list that sets its terms in their order"
 unfoldable pub calls_that_set : PauliHamiltonian → NoiseSet → List Call
 calls_that_set h w =
-    map (λ t. set_hamiltonian t.items t.coefficient) (reals.held_by h) ++ map (λ t. set_noise (t.left, t.right) t.coefficient) (pairs.held_by w)
+    map (λ t. set_hamiltonian t.key t.coefficient) (reals.held_by h) ++ map (λ t. set_noise t.key t.coefficient) (pairs.held_by w)

@@ -10,8 +10,7 @@ use Rattle.terms.specs.Keyed.{concat_map}
 use Rattle.condition3.specs.Runs.{run}
 use Rattle.terms.specs.Setting.{most_terms}
 use Rattle.term_sets.specs.Complexes as operators
-use Rattle.term_sets.specs.declared.Term.{Term}
-use Rattle.term_sets.specs.declared.TermSet.{TermSet}
+use Rattle.term_sets.specs.Complexes.{Term, TermSet}
 use Rattle.noise_sets.specs.Pairs.{Key, is_empty}
 use Rattle.condition3.specs.Calls.{Call, set_hamiltonian, add_hamiltonian, set_noise, add_noise, add_noise_from_full_operators}
 
@@ -91,8 +90,8 @@ lawful_operators l r v =
 unfoldable pub full_lines : Complex → List Term → List Term → List (Line Key)
 full_lines v l r =
     concat_map (λ x. concat_map (λ y.
-    cond (is_empty x.items || is_empty y.items) []
-    (((x.items, y.items), product_of (product_of (conjugate_of y.coefficient) x.coefficient) v) ∷ [])) r) l
+    cond (is_empty x.key || is_empty y.key) []
+    (((x.key, y.key), product_of (product_of (conjugate_of y.coefficient) x.coefficient) v) ∷ [])) r) l
 
 -- ---- the lines of both sets
 

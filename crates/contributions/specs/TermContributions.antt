@@ -5,8 +5,8 @@ use Rattle.complex.specs.declared.Complex.{Complex}
 use Rattle.letters.specs.Matrices.{Letters}
 use Rattle.items.specs.Record.{letter_at}
 use Rattle.terms.specs.Keyed.{concat_map}
-use Rattle.term_sets.specs.declared.Term.{Term}
-use Rattle.noise_sets.specs.declared.NoiseTerm.{NoiseTerm}
+use Rattle.term_sets.specs.Complexes.{Term}
+use Rattle.noise_sets.specs.Pairs.{NoiseTerm}
 use Rattle.master_equation.specs.Contributions.{operator_terms, commutator_terms, noise_terms}
 use Rattle.rows.specs.Floats.{floats}
 
@@ -14,10 +14,10 @@ use Rattle.rows.specs.Floats.{floats}
 
 -- what a term contributes to row r of an operator, and of a commutator
 abbrev pub operator_part : Letters → ℕ → ℕ → Term → List (ℕ × Complex)
-operator_part M n r t = operator_terms floats n M r (letter_at t.items) t.coefficient
+operator_part M n r t = operator_terms floats n M r (letter_at t.key) t.coefficient
 
 abbrev pub commutator_part : ℕ → ℕ → Term → List (ℕ × Complex)
-commutator_part n r t = commutator_terms floats n (r / 2 ^ n) (r % 2 ^ n) (letter_at t.items) t.coefficient
+commutator_part n r t = commutator_terms floats n (r / 2 ^ n) (r % 2 ^ n) (letter_at t.key) t.coefficient
 
 -- the contributions of terms, in term order
 unfoldable pub operator_contributions : Letters → ℕ → ℕ → List Term → List (ℕ × Complex)
@@ -30,7 +30,7 @@ commutator_contributions n r l = concat_map (commutator_part n r) l
 
 -- what a pair contributes to row r of noise, and pairs in term order
 abbrev pub noise_part : ℕ → ℕ → NoiseTerm → List (ℕ × Complex)
-noise_part n r t = noise_terms floats n (r / 2 ^ n) (r % 2 ^ n) (letter_at t.left) (letter_at t.right) t.coefficient
+noise_part n r t = noise_terms floats n (r / 2 ^ n) (r % 2 ^ n) (letter_at t.key.0) (letter_at t.key.1) t.coefficient
 
 unfoldable pub noise_contributions : ℕ → ℕ → List NoiseTerm → List (ℕ × Complex)
 noise_contributions n r l = concat_map (noise_part n r) l

@@ -13,15 +13,12 @@ use Rattle.master_equation.specs.Sums.{sum_at, value_at}
 use Rattle.rows.proofs.PlacingLaws.{row_in_value}
 use Rattle.term_sets.specs.Matrices.{Fits}
 use Rattle.hamiltonians.specs.Reals as reals
-use Rattle.hamiltonians.specs.declared.pauli_hamiltonian.RealTerm.{RealTerm}
-use Rattle.hamiltonians.specs.declared.pauli_hamiltonian.PauliHamiltonian.{PauliHamiltonian}
-use Rattle.noise_sets.specs.Pairs.{Key}
+use Rattle.hamiltonians.specs.Reals.{RealTerm, hamiltonian_terms}
+use Rattle.hamiltonians.specs.declared.PauliHamiltonian.{PauliHamiltonian}
+use Rattle.noise_sets.specs.Pairs.{Key, NoiseTerm, NoiseSet}
 use Rattle.noise_sets.specs.Pairs as pairs
-use Rattle.noise_sets.specs.declared.NoiseTerm.{NoiseTerm}
-use Rattle.noise_sets.specs.declared.NoiseSet.{NoiseSet}
 use Rattle.open_system.specs.declared.PauliLindbladOpenSystem.{PauliLindbladOpenSystem}
 use Rattle.outside_sites.specs.Accepted.{Accepted}
-use Rattle.hamiltonians.specs.Reals.{hamiltonian_terms}
 use Rattle.term_sets.specs.Complexes as operator_rows
 use Rattle.exact_rows.specs.ExactRows.{gauss_of, exact_contributions, exact_commutator_part, exact_row_entries}
 use Rattle.outside_sites.proofs.AcceptedLaws.{accepted_first, accepted_rest, accepted_left, accepted_right, all_both, hamiltonian-valid, noise-valid}
@@ -47,25 +44,25 @@ contributions n r h w =
 -- ---- the products that 0 and 8 let pass fit the spins
 
 products_fit : {n rows r : ℕ} (l : List RealTerm) → Accepted n rows r (operator_rows.items_of (map reals.complex_term l))
-    → All (λ (t : Items × G). Fits n t.0) (map (λ (t : RealTerm). (t.items, gauss_of (reals.complex_of t.coefficient))) l)
+    → All (λ (t : Items × G). Fits n t.0) (map (λ (t : RealTerm). (t.key, gauss_of (reals.complex_of t.coefficient))) l)
 products_fit {n} [] a = all_nil (λ (t : Items × G). Fits n t.0)
 products_fit {n} (t ∷ l) a =
-    let w = accepted_first t.items (operator_rows.items_of (map reals.complex_term l)) a in
-    all_cons (λ (t : Items × G). Fits n t.0) (t.items, gauss_of (reals.complex_of t.coefficient)) (map (λ (t : RealTerm). (t.items, gauss_of (reals.complex_of t.coefficient))) l)
+    let w = accepted_first t.key (operator_rows.items_of (map reals.complex_term l)) a in
+    all_cons (λ (t : Items × G). Fits n t.0) (t.key, gauss_of (reals.complex_of t.coefficient)) (map (λ (t : RealTerm). (t.key, gauss_of (reals.complex_of t.coefficient))) l)
     (w.held, w.sites_below_lem)
-    (products_fit l (accepted_rest t.items (operator_rows.items_of (map reals.complex_term l)) a))
+    (products_fit l (accepted_rest t.key (operator_rows.items_of (map reals.complex_term l)) a))
 
 sides_fit : {n rows r : ℕ} (l : List NoiseTerm) → Accepted n rows r (pairs.sides_of l)
-    → All (λ (t : Key × G). FitsPair n t.0) (map (λ (t : NoiseTerm). ((t.left, t.right), gauss_of t.coefficient)) l)
+    → All (λ (t : Key × G). FitsPair n t.0) (map (λ (t : NoiseTerm). (t.key, gauss_of t.coefficient)) l)
 unfolding pairs.sides_of concat_map
 sides_fit {n} [] a = all_nil (λ (t : Key × G). FitsPair n t.0)
 sides_fit {n} (t ∷ l) a =
-    let left = accepted_first t.left (t.right ∷ pairs.sides_of l) a in
-    let b = accepted_rest t.left (t.right ∷ pairs.sides_of l) a in
-    let right = accepted_first t.right (pairs.sides_of l) b in
-    all_cons (λ (t : Key × G). FitsPair n t.0) ((t.left, t.right), gauss_of t.coefficient) (map (λ (t : NoiseTerm). ((t.left, t.right), gauss_of t.coefficient)) l)
+    let left = accepted_first t.key.0 (t.key.1 ∷ pairs.sides_of l) a in
+    let b = accepted_rest t.key.0 (t.key.1 ∷ pairs.sides_of l) a in
+    let right = accepted_first t.key.1 (pairs.sides_of l) b in
+    all_cons (λ (t : Key × G). FitsPair n t.0) (t.key, gauss_of t.coefficient) (map (λ (t : NoiseTerm). (t.key, gauss_of t.coefficient)) l)
     ((left.held, left.sites_below_lem), (right.held, right.sites_below_lem))
-    (sides_fit l (accepted_rest t.right (pairs.sides_of l) b))
+    (sides_fit l (accepted_rest t.key.1 (pairs.sides_of l) b))
 
 module _ (s : PauliLindbladOpenSystem) (n r : ℕ) (p : Passed s n) (below : r < 2 ^ n * 2 ^ n) where
   taken : Accepted n (2 ^ n * 2 ^ n) r (products s)

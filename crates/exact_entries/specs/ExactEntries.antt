@@ -6,19 +6,19 @@ use Rattle.letters.specs.Gauss.{G}
 use Rattle.row_entries.specs.PairColumns.{pair_column}
 use Rattle.master_equation.specs.Sums.{value_at}
 use Rattle.hamiltonians.specs.Reals as reals
-use Rattle.hamiltonians.specs.declared.pauli_hamiltonian.PauliHamiltonian.{PauliHamiltonian}
+use Rattle.hamiltonians.specs.declared.PauliHamiltonian.{PauliHamiltonian}
 use Rattle.noise_sets.specs.Pairs as pairs
-use Rattle.noise_sets.specs.declared.NoiseSet.{NoiseSet}
+use Rattle.noise_sets.specs.Pairs.{NoiseSet}
 use Rattle.open_system.specs.declared.PauliLindbladOpenSystem.{PauliLindbladOpenSystem}
 use Rattle.exact_rows.specs.ExactRows.{gauss_of, exact_row}
 use Rattle.superoperator.specs.Systems.{Hamiltonian, Noise, entry_of}
 
 -- the terms of a Hamiltonian, and the pairs of noise, with their coefficients as whole numbers
 unfoldable pub whole_hamiltonian : PauliHamiltonian → Hamiltonian
-whole_hamiltonian h = map (λ t. (t.items, gauss_of (reals.complex_of t.coefficient))) (reals.held_by h)
+whole_hamiltonian h = map (λ t. (t.key, gauss_of (reals.complex_of t.coefficient))) (reals.held_by h)
 
 unfoldable pub whole_noise : NoiseSet → Noise
-whole_noise w = map (λ t. ((t.left, t.right), gauss_of t.coefficient)) (pairs.held_by w)
+whole_noise w = map (λ t. (t.key, gauss_of t.coefficient)) (pairs.held_by w)
 
 -- the entry of a system's superoperator at row (k, l) and column (a, b)
 unfoldable pub system_entry : PauliLindbladOpenSystem → ℕ → ℕ → ℕ → ℕ → ℕ → G

@@ -7,7 +7,7 @@ use lib.IntN.{ℤ}
 use Rattle.refusal.specs.Refusals.{Said, refuses}
 use Rattle.exact_sums.specs.ExactSums.{ExactCall}
 use Rattle.hamiltonians.specs.Reals as reals
-use Rattle.term_sets.specs.declared.Term.{Term}
+use Rattle.term_sets.specs.Complexes.{Term}
 use Rattle.noise_sets.specs.Pairs as pairs
 use Rattle.hamiltonians.specs.Reals.{hamiltonian_terms}
 use Rattle.exact_rows.specs.ExactRows.{exact_row_of_terms, exact_row}

@@ -29,10 +29,9 @@ use Rattle.row_entries.specs.Entries.{commutator_entries, noise_entries}
 use Rattle.exact_sums.specs.ExactSums.{whole, within, all_small, exact_entries, exact_answer, ExactCall}
 use Rattle.exact_sums.proofs.ExactLaws.{small_none, small_append, exact_delivered}
 use Rattle.rows.proofs.CallLaws.{call_refused}
-use Rattle.term_sets.specs.declared.Term.{Term}
-use Rattle.noise_sets.specs.declared.NoiseTerm.{NoiseTerm}
+use Rattle.term_sets.specs.Complexes.{Term}
+use Rattle.noise_sets.specs.Pairs.{NoiseTerm, sides}
 use Rattle.outside_sites.specs.Accepted.{Accepted}
-use Rattle.noise_sets.specs.Pairs.{sides}
 use Rattle.outside_sites.specs.SystemItems.{system_items}
 use Rattle.exact_rows.specs.ExactRows.{gauss_of, largest_coefficient, exact_commutator_part, exact_noise_part, exact_contributions, whole_terms, unless_not_whole, exact_row_of_terms}
 use Rattle.exact_rows.proofs.CoefficientLaws.{read_small, commutator_small, noise_small}
@@ -63,22 +62,22 @@ read_parts x {z} e = read_small z (rw e (omega (arith, parts_abs x))) ∙ e
 
 module _ (n r : ℕ) where
   -- what is put of a term: a and b are the values found
-  pub exact_commutator_put : (t : Term) → Accepted n (2 ^ n * 2 ^ n) r (t.items ∷ []) → {m : ℕ} → m ≡ masks_of t.items → {left right : ℕ × ℕ} → left ∷ right ∷ [] ≡ commutator_entries m (min n most_spins) r
+  pub exact_commutator_put : (t : Term) → Accepted n (2 ^ n * 2 ^ n) r (t.key ∷ []) → {m : ℕ} → m ≡ masks_of t.key → {left right : ℕ × ℕ} → left ∷ right ∷ [] ≡ commutator_entries m (min n most_spins) r
       → {x y : ℤ} → x ≡ parts_of t.coefficient.re → y ≡ parts_of t.coefficient.im
       → {a b : G} → a ≡ halves.scaled left.1 (whole x y) → b ≡ halves.scaled right.1 (whole x y)
       → (l : List (ℕ × G)) {l' l'' : List (ℕ × G)} → l' ≡ l ++ (left.0, a) ∷ [] → l'' ≡ l' ++ (right.0, b) ∷ [] → l'' ≡ l ++ exact_commutator_part n r t
   exact_commutator_put t k em {left} {right} e ex ey ea eb =
       let g = gauss_is t.coefficient ex ey in
-      put_commutator halves (gauss_of t.coefficient) n r t.items k em e (ea ∙ ap (halves.scaled left.1) g) (eb ∙ ap (halves.scaled right.1) g)
+      put_commutator halves (gauss_of t.coefficient) n r t.key k em e (ea ∙ ap (halves.scaled left.1) g) (eb ∙ ap (halves.scaled right.1) g)
 
-  pub exact_noise_put : (t : NoiseTerm) → Accepted n (2 ^ n * 2 ^ n) r (sides t) → {m m' : ℕ} → m ≡ masks_of t.left → m' ≡ masks_of t.right
+  pub exact_noise_put : (t : NoiseTerm) → Accepted n (2 ^ n * 2 ^ n) r (sides t) → {m m' : ℕ} → m ≡ masks_of t.key.0 → m' ≡ masks_of t.key.1
       → {jump left right : ℕ × ℕ} → jump ∷ left ∷ right ∷ [] ≡ noise_entries m m' (min n most_spins) r
       → {x y : ℤ} → x ≡ parts_of t.coefficient.re → y ≡ parts_of t.coefficient.im
       → {a b d : G} → a ≡ halves.scaled jump.1 (whole x y) → b ≡ halves.minus_half left.1 (whole x y) → d ≡ halves.minus_half right.1 (whole x y)
       → (l : List (ℕ × G)) {l' l'' l''' : List (ℕ × G)} → l' ≡ l ++ (jump.0, a) ∷ [] → l'' ≡ l' ++ (left.0, b) ∷ [] → l''' ≡ l'' ++ (right.0, d) ∷ [] → l''' ≡ l ++ exact_noise_part n r t
   exact_noise_put t k em em' {jump} {left} {right} e ex ey ea eb ed =
       let g = gauss_is t.coefficient ex ey in
-      put_noise halves (gauss_of t.coefficient) n r t.left t.right k em em' e (ea ∙ ap (halves.scaled jump.1) g) (eb ∙ ap (halves.minus_half left.1) g) (ed ∙ ap (halves.minus_half right.1) g)
+      put_noise halves (gauss_of t.coefficient) n r t.key.0 t.key.1 k em em' e (ea ∙ ap (halves.scaled jump.1) g) (eb ∙ ap (halves.minus_half left.1) g) (ed ∙ ap (halves.minus_half right.1) g)
 
   -- ---- every contribution is small
 
@@ -91,8 +90,8 @@ module _ (n r : ℕ) where
   unfolding exact_contributions
   contributions_small h w =
       small_append (concat_map (exact_commutator_part n r) h) (concat_map (exact_noise_part n r) w)
-      (all_small_lem (exact_commutator_part n r) (λ t. commutator_small (gauss_of t.coefficient) (gauss_within t.coefficient) n (r / 2 ^ n) (r % 2 ^ n) (letter_at t.items)) h)
-      (all_small_lem (exact_noise_part n r) (λ t. noise_small (gauss_of t.coefficient) (gauss_within t.coefficient) n (r / 2 ^ n) (r % 2 ^ n) (letter_at t.left) (letter_at t.right)) w)
+      (all_small_lem (exact_commutator_part n r) (λ t. commutator_small (gauss_of t.coefficient) (gauss_within t.coefficient) n (r / 2 ^ n) (r % 2 ^ n) (letter_at t.key)) h)
+      (all_small_lem (exact_noise_part n r) (λ t. noise_small (gauss_of t.coefficient) (gauss_within t.coefficient) n (r / 2 ^ n) (r % 2 ^ n) (letter_at t.key.0) (letter_at t.key.1)) w)
 
   -- ---- the row: the first k entries are the contributions of both parts
 

@@ -12,9 +12,9 @@ use Rattle.master_equation.specs.Contributions.{commutator_terms, noise_terms}
 use Rattle.rows.specs.Placing.{row_in}
 use Rattle.exact_sums.specs.ExactSums.{whole}
 use Rattle.rows.specs.Calls.{checked_row}
-use Rattle.term_sets.specs.declared.Term.{Term}
+use Rattle.term_sets.specs.Complexes.{Term}
 use Rattle.noise_sets.specs.Pairs as pairs
-use Rattle.noise_sets.specs.declared.NoiseTerm.{NoiseTerm}
+use Rattle.noise_sets.specs.Pairs.{NoiseTerm}
 use Rattle.hamiltonians.specs.Reals.{hamiltonian_terms}
 use Rattle.open_system.specs.Grouping.{valid_system}
 use Rattle.outside_sites.specs.SystemItems.{system_items}
@@ -30,10 +30,10 @@ largest_coefficient = 2 ^ 50
 
 -- what a term contributes to row r
 abbrev pub exact_commutator_part : ℕ → ℕ → Term → List (ℕ × G)
-exact_commutator_part n r t = commutator_terms halves n (r / 2 ^ n) (r % 2 ^ n) (letter_at t.items) (gauss_of t.coefficient)
+exact_commutator_part n r t = commutator_terms halves n (r / 2 ^ n) (r % 2 ^ n) (letter_at t.key) (gauss_of t.coefficient)
 
 abbrev pub exact_noise_part : ℕ → ℕ → NoiseTerm → List (ℕ × G)
-exact_noise_part n r t = noise_terms halves n (r / 2 ^ n) (r % 2 ^ n) (letter_at t.left) (letter_at t.right) (gauss_of t.coefficient)
+exact_noise_part n r t = noise_terms halves n (r / 2 ^ n) (r % 2 ^ n) (letter_at t.key.0) (letter_at t.key.1) (gauss_of t.coefficient)
 
 -- the contributions of terms, in term order, the Hamiltonian's before the noise's
 unfoldable pub exact_contributions : ℕ → ℕ → List Term → List NoiseTerm → List (ℕ × G)

@@ -20,28 +20,25 @@ mod writing;
 
 use crate::writing::{write_commutator, write_noise};
 use exact_sums::deliver_exact;
-use hamiltonians::pauli_hamiltonian::complex_terms;
-use noise_sets::NoiseSet;
 use open_system::PauliLindbladOpenSystem;
 use outside_sites::outside_site;
 use refusal::Refusal;
 use row_entries::{MOST_SPINS, superoperator_size};
-use rows::Delivery;
-use term_sets::TermSet;
-use whole_sets::{whole_pairs, whole_terms};
+use term_sets::{NoiseSet, TermSet};
+use whole_sets::all_whole;
 
 // The exact row of whole terms that fit the spins.
 fn delivered(
-    h: TermSet,
-    n: NoiseSet,
+    h: &TermSet,
+    n: &NoiseSet,
     spins: u32,
     row: u64,
     out_columns: &mut [u64],
     out_re: &mut [i64],
     out_im: &mut [i64],
-) -> Delivery
-    requires { Accepted spins (2 ^ spins * 2 ^ spins) row (system_items (complexes.held_by h) (pairs.held_by n)) }
-    ensures { ExactCall (gives (row_in halves false (exact_contributions spins row (complexes.held_by h) (pairs.held_by n)))) (said_delivery result) out_columns.old out_columns.new out_re.old out_re.new out_im.old out_im.new }
+) -> Result<usize, Refusal>
+    requires { Accepted spins (2 ^ spins * 2 ^ spins) row (system_items (complexes.held_by h.now) (pairs.held_by n.now)) }
+    ensures { ExactCall (gives (row_in halves false (exact_contributions spins row (complexes.held_by h.now) (pairs.held_by n.now)))) (said_delivery result) out_columns.old out_columns.new out_re.old out_re.new out_im.old out_im.new }
 {
     let mut columns = [0u64; 320];
     let mut re = [0i64; 320];
@@ -53,70 +50,70 @@ fn delivered(
 
 // The exact row of terms that fit the spins: 11, then the row.
 fn whole_row(
-    h: TermSet,
-    n: NoiseSet,
+    h: &TermSet,
+    n: &NoiseSet,
     spins: u32,
     row: u64,
     out_columns: &mut [u64],
     out_re: &mut [i64],
     out_im: &mut [i64],
-) -> Delivery
-    requires { Accepted spins (2 ^ spins * 2 ^ spins) row (system_items (complexes.held_by h) (pairs.held_by n)) }
-    ensures { ExactCall (exact_row_of_terms spins row (complexes.held_by h) (pairs.held_by n)) (said_delivery result) out_columns.old out_columns.new out_re.old out_re.new out_im.old out_im.new }
+) -> Result<usize, Refusal>
+    requires { Accepted spins (2 ^ spins * 2 ^ spins) row (system_items (complexes.held_by h.now) (pairs.held_by n.now)) }
+    ensures { ExactCall (exact_row_of_terms spins row (complexes.held_by h.now) (pairs.held_by n.now)) (said_delivery result) out_columns.old out_columns.new out_re.old out_re.new out_im.old out_im.new }
 {
-    if !whole_terms(h) {
-        return Delivery::Refused(Refusal::NotWhole);
-    }
-    if !whole_pairs(n) {
-        return Delivery::Refused(Refusal::NotWhole);
+    if !all_whole(h) || !all_whole(n) {
+        return Err(Refusal::NotWhole);
     }
     delivered(h, n, spins, row, out_columns, out_re, out_im)
 }
 
 // The exact row of valid terms: 7, 9, 8, then the rest.
 fn row_of(
-    h: TermSet,
-    n: NoiseSet,
+    h: &TermSet,
+    n: &NoiseSet,
     spins: u32,
     row: u64,
     out_columns: &mut [u64],
     out_re: &mut [i64],
     out_im: &mut [i64],
-) -> Delivery
-    requires { each (λ p ps. valid p) (system_items (complexes.held_by h) (pairs.held_by n)) ≡ true }
-    ensures { ExactCall (exact_row_of_terms spins row (complexes.held_by h) (pairs.held_by n)) (said_delivery result) out_columns.old out_columns.new out_re.old out_re.new out_im.old out_im.new }
+) -> Result<usize, Refusal>
+    requires { each (λ p ps. valid p) (system_items (complexes.held_by h.now) (pairs.held_by n.now)) ≡ true }
+    ensures { ExactCall (exact_row_of_terms spins row (complexes.held_by h.now) (pairs.held_by n.now)) (said_delivery result) out_columns.old out_columns.new out_re.old out_re.new out_im.old out_im.new }
 {
     if MOST_SPINS < spins {
-        return Delivery::Refused(Refusal::TooManySpins);
+        return Err(Refusal::TooManySpins);
     }
     if superoperator_size(spins) <= row {
-        return Delivery::Refused(Refusal::RowOutOfRange);
+        return Err(Refusal::RowOutOfRange);
     }
     match outside_site(h, n, spins) {
-        Some(site) => Delivery::Refused(Refusal::SiteOutsideSpins(site)),
+        Some(site) => Err(Refusal::SiteOutsideSpins(site)),
         None => whole_row(h, n, spins, row, out_columns, out_re, out_im),
     }
 }
 
 // The exact row of an open system's superoperator over `spins` spins, in halves.
 pub fn exact_row(
-    s: PauliLindbladOpenSystem,
+    s: &PauliLindbladOpenSystem,
     spins: u32,
     row: u64,
     out_columns: &mut [u64],
     out_re: &mut [i64],
     out_im: &mut [i64],
-) -> Delivery
-    ensures { ExactCall (exact_row s spins row) (said_delivery result) out_columns.old out_columns.new out_re.old out_re.new out_im.old out_im.new }
+) -> Result<usize, Refusal>
+    ensures { ExactCall (exact_row s.now spins row) (said_delivery result) out_columns.old out_columns.new out_re.old out_re.new out_im.old out_im.new }
 {
-    let h = s.system;
-    let n = s.noise.set;
-    if !h.is_valid() {
-        return Delivery::Refused(Refusal::Malformed);
+    if !s.system.is_valid() || !s.noise.is_valid() {
+        return Err(Refusal::Malformed);
     }
-    if !noise_sets::is_valid(n) {
-        return Delivery::Refused(Refusal::Malformed);
-    }
-    let terms = complex_terms(h);
-    row_of(terms, n, spins, row, out_columns, out_re, out_im)
+    let terms = s.system.complex_terms();
+    row_of(
+        &terms,
+        &s.noise.set,
+        spins,
+        row,
+        out_columns,
+        out_re,
+        out_im,
+    )
 }

@@ -12,10 +12,11 @@ ghost use Rattle.noise_sets.specs.Pairs.{sides};
 ghost use Rattle.noise_sets.specs.Pairs as pairs;
 
 use crate::halves::{minus_halves, scaled_halves};
+use complex::Complex;
 use exact_sums::halves::Halves;
-use noise_sets::{NoiseSet, NoiseTerm};
+use items::Items;
 use row_entries::{commutator_entries, noise_entries};
-use term_sets::{Term, TermSet, held_count};
+use term_sets::{NoiseSet, Term, TermSet};
 use whole_sets::parts_of;
 
 // One contribution at a place.
@@ -39,7 +40,7 @@ fn put(
 
 // The two contributions of a term of the Hamiltonian, from a place on: its left half, then its right half.
 fn put_commutator(
-    t: Term,
+    t: &Term<Items, Complex>,
     spins: u32,
     row: u64,
     at: usize,
@@ -48,12 +49,12 @@ fn put_commutator(
     im: &mut [i64; 320],
 )
     requires { (at + 2 ≤ 320) × (spins ≤ most_spins) }
-    ensures { Long columns.old re.old im.old → (Accepted spins (2 ^ spins * 2 ^ spins) row (t.items ∷ []) → exact_entries columns.new re.new im.new (at + 2) ≡ exact_entries columns.old re.old im.old at ++ exact_commutator_part spins row t) × Long columns.new re.new im.new }
+    ensures { Long columns.old re.old im.old → (Accepted spins (2 ^ spins * 2 ^ spins) row (t.now.key ∷ []) → exact_entries columns.new re.new im.new (at + 2) ≡ exact_entries columns.old re.old im.old at ++ exact_commutator_part spins row t.now) × Long columns.new re.new im.new }
 {
     let c = t.coefficient;
     let x = parts_of(c.re);
     let y = parts_of(c.im);
-    let e = commutator_entries(t.items.masks(), spins, row);
+    let e = commutator_entries(t.key.masks(), spins, row);
     let left = e.left;
     let right = e.right;
     let a = scaled_halves(left.power, x, y);
@@ -64,7 +65,7 @@ fn put_commutator(
 
 // The contributions of the Hamiltonian's terms, two of each term; how many there are.
 pub(crate) fn write_commutator(
-    s: TermSet,
+    s: &TermSet,
     spins: u32,
     row: u64,
     columns: &mut [u64; 320],
@@ -72,21 +73,18 @@ pub(crate) fn write_commutator(
     im: &mut [i64; 320],
 ) -> usize
     requires { spins ≤ most_spins }
-    ensures { (result ≤ 128) × (Long columns.old re.old im.old → Accepted spins (2 ^ spins * 2 ^ spins) row (items_of (complexes.held_by s)) → (exact_entries columns.new re.new im.new result ≡ concat_map (exact_commutator_part spins row) (complexes.held_by s)) × Long columns.new re.new im.new) }
+    ensures { (result ≤ 128) × (Long columns.old re.old im.old → Accepted spins (2 ^ spins * 2 ^ spins) row (items_of (complexes.held_by s.now)) → (exact_entries columns.new re.new im.new result ≡ concat_map (exact_commutator_part spins row) (complexes.held_by s.now)) × Long columns.new re.new im.new) }
 {
-    let n = held_count(s.count);
-    let mut i = 0;
-    while i < n {
-        let t = s.terms[i];
-        put_commutator(t, spins, row, 2 * i, columns, re, im);
-        i += 1;
+    let n = s.held_count();
+    for i in 0..n {
+        put_commutator(&s.terms[i], spins, row, 2 * i, columns, re, im);
     }
     2 * n
 }
 
 // The three contributions of a noise term, from a place on.
 fn put_noise(
-    t: NoiseTerm,
+    t: &Term<(Items, Items), Complex>,
     spins: u32,
     row: u64,
     at: usize,
@@ -95,12 +93,12 @@ fn put_noise(
     im: &mut [i64; 320],
 )
     requires { (at + 3 ≤ 320) × (spins ≤ most_spins) }
-    ensures { Long columns.old re.old im.old → (Accepted spins (2 ^ spins * 2 ^ spins) row (sides t) → exact_entries columns.new re.new im.new (at + 3) ≡ exact_entries columns.old re.old im.old at ++ exact_noise_part spins row t) × Long columns.new re.new im.new }
+    ensures { Long columns.old re.old im.old → (Accepted spins (2 ^ spins * 2 ^ spins) row (sides t.now) → exact_entries columns.new re.new im.new (at + 3) ≡ exact_entries columns.old re.old im.old at ++ exact_noise_part spins row t.now) × Long columns.new re.new im.new }
 {
     let c = t.coefficient;
     let x = parts_of(c.re);
     let y = parts_of(c.im);
-    let e = noise_entries(t.left.masks(), t.right.masks(), spins, row);
+    let e = noise_entries(t.key.0.masks(), t.key.1.masks(), spins, row);
     let jump = e.jump;
     let left = e.left;
     let right = e.right;
@@ -115,7 +113,7 @@ fn put_noise(
 
 // The contributions of a noise set's terms after the first `from` contributions, three of each term; how many there are then.
 pub(crate) fn write_noise(
-    s: NoiseSet,
+    s: &NoiseSet,
     spins: u32,
     row: u64,
     from: usize,
@@ -124,14 +122,11 @@ pub(crate) fn write_noise(
     im: &mut [i64; 320],
 ) -> usize
     requires { (from ≤ 128) × (spins ≤ most_spins) }
-    ensures { (result ≤ 320) × (Long columns.old re.old im.old → Accepted spins (2 ^ spins * 2 ^ spins) row (pairs.sides_of (pairs.held_by s)) → exact_entries columns.new re.new im.new result ≡ exact_entries columns.old re.old im.old from ++ concat_map (exact_noise_part spins row) (pairs.held_by s)) }
+    ensures { (result ≤ 320) × (Long columns.old re.old im.old → Accepted spins (2 ^ spins * 2 ^ spins) row (pairs.sides_of (pairs.held_by s.now)) → exact_entries columns.new re.new im.new result ≡ exact_entries columns.old re.old im.old from ++ concat_map (exact_noise_part spins row) (pairs.held_by s.now)) }
 {
-    let n = held_count(s.count);
-    let mut i = 0;
-    while i < n {
-        let t = s.terms[i];
-        put_noise(t, spins, row, from + 3 * i, columns, re, im);
-        i += 1;
+    let n = s.held_count();
+    for i in 0..n {
+        put_noise(&s.terms[i], spins, row, from + 3 * i, columns, re, im);
     }
     from + 3 * n
 }

@@ -15,7 +15,7 @@ pub mod halves;
 
 use crate::halves::{Halves, both_within};
 use refusal::Refusal;
-use rows::{Delivery, put_columns};
+use rows::put_columns;
 use sorting::sorted_places;
 
 // 2^52
@@ -148,23 +148,17 @@ fn handed_over(
     out_columns: &mut [u64],
     out_re: &mut [i64],
     out_im: &mut [i64],
-) -> Delivery
+) -> Result<usize, Refusal>
     requires { (n ≤ 320) × Long columns.now re.now im.now }
     ensures { ExactCall (gives (exact_entries columns.now re.now im.now n)) (said_delivery result) out_columns.old out_columns.new out_re.old out_re.new out_im.old out_im.new }
 {
-    if out_columns.len() < n {
-        return Delivery::Refused(Refusal::BufferTooShort);
-    }
-    if out_re.len() < n {
-        return Delivery::Refused(Refusal::BufferTooShort);
-    }
-    if out_im.len() < n {
-        return Delivery::Refused(Refusal::BufferTooShort);
+    if out_columns.len() < n || out_re.len() < n || out_im.len() < n {
+        return Err(Refusal::BufferTooShort);
     }
     put_columns(columns, n, out_columns);
     put_parts(re, n, out_re);
     put_parts(im, n, out_im);
-    Delivery::Count(n)
+    Ok(n)
 }
 
 // The exact row of the first n contributions. One with a part over 2^52 in size is refused, so that the sum of 320 of them fits 64 bits.
@@ -176,14 +170,14 @@ pub fn deliver_exact(
     out_columns: &mut [u64],
     out_re: &mut [i64],
     out_im: &mut [i64],
-) -> Delivery
+) -> Result<usize, Refusal>
     ensures { ExactCall (exact_answer (exact_entries columns.now re.now im.now n)) (said_delivery result) out_columns.old out_columns.new out_re.old out_re.new out_im.old out_im.new }
 {
     if n > 320 {
-        return Delivery::Refused(Refusal::Malformed);
+        return Err(Refusal::Malformed);
     }
     if !all_small(re, im, n) {
-        return Delivery::Refused(Refusal::Malformed);
+        return Err(Refusal::Malformed);
     }
     let mut a = [0u64; 320];
     let mut b = [0i64; 320];

@@ -3,7 +3,7 @@
 
 use printing::Places;
 use spins::{
-    Complex, DecoherenceProduct, Delivery, PauliHamiltonian, PauliLindbladNoiseOperator,
+    Complex, DecoherenceProduct, PauliHamiltonian, PauliLindbladNoiseOperator,
     PauliLindbladOpenSystem, PauliProduct, Refusal, exact_row,
 };
 use std::io;
@@ -13,31 +13,31 @@ const X: u8 = 1;
 
 const Z: u8 = 3;
 
-// The Hamiltonian 3 Z0, and the noise pair (X0, X0) with rate 2. Each call answers whether it was accepted (`h.answer`, `s.outcome`); all are.
+// The Hamiltonian 3 Z0, and the noise pair (X0, X0) with rate 2.
 fn system() -> Result<PauliLindbladOpenSystem, Refusal> {
     let z0 = PauliProduct::new().set_pauli(0, Z)?;
-    let h = PauliHamiltonian::new().set(z0, 3.0);
+    let mut h = PauliHamiltonian::new();
+    h.set(z0, 3.0)?;
     let x0 = DecoherenceProduct::new().set_pauli(0, X)?;
-    let rate = Complex { re: 2.0, im: 0.0 };
-    let n = PauliLindbladNoiseOperator::new().set(x0, x0, rate);
-    let s = PauliLindbladOpenSystem::group(h.set, n.operator);
-    Ok(s.system)
+    let mut noise = PauliLindbladNoiseOperator::new();
+    noise.set(x0, x0, Complex { re: 2.0, im: 0.0 })?;
+    PauliLindbladOpenSystem::group(h, noise)
 }
 
-fn print_row(rt: &impl Print, s: PauliLindbladOpenSystem, spins: u32, row: u64) -> io::Result<()> {
+fn print_row(rt: &impl Print, s: &PauliLindbladOpenSystem, spins: u32, row: u64) -> io::Result<()> {
     let mut lent = Places::new();
     match exact_row(s, spins, row, &mut lent.columns, &mut lent.re, &mut lent.im) {
-        Delivery::Count(n) => print!(rt; "{}", lent.entries(row, n)),
-        Delivery::Refused(why) => println!(rt; "refused under number {}", why.number()),
+        Ok(n) => print!(rt; "{}", lent.entries(row, n)),
+        Err(why) => println!(rt; "refused under number {}", why.number()),
     }
 }
 
 fn main(rt: HostRuntime) -> io::Result<()> {
     match system() {
         Ok(s) => {
-            print_row(&rt, s, 1, 0)?;
-            print_row(&rt, s, 1, 1)?;
-            print_row(&rt, s, 0, 0)
+            print_row(&rt, &s, 1, 0)?;
+            print_row(&rt, &s, 1, 1)?;
+            print_row(&rt, &s, 0, 0)
         }
         Err(why) => println!(rt; "refused under number {}", why.number()),
     }

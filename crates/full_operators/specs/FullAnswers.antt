@@ -8,12 +8,12 @@ use Rattle.terms.specs.Setting.{add_all}
 use Rattle.terms.specs.Chains.{full_terms}
 use Rattle.term_sets.specs.Complexes.{complex_terms, complex_products}
 use Rattle.term_sets.specs.Complexes as operators
-use Rattle.term_sets.specs.declared.Term.{Term}
-use Rattle.term_sets.specs.declared.TermSet.{TermSet}
+use Rattle.term_sets.specs.Complexes.{Term}
+use Rattle.term_sets.specs.Complexes.{TermSet}
 use Rattle.noise_sets.specs.Pairs.{pair_terms, is_empty, held_by, valid_set}
-use Rattle.noise_sets.specs.declared.NoiseTerm.{NoiseTerm}
-use Rattle.noise_sets.specs.declared.NoiseSet.{NoiseSet}
-use Rattle.noise_writing.specs.WritingAnswers.{ended}
+use Rattle.noise_sets.specs.Pairs.{NoiseTerm}
+use Rattle.noise_sets.specs.Pairs.{NoiseSet}
+use Rattle.noise_sets.specs.Answers.{ended}
 
 -- the pairs that full operators add
 abbrev pub pairs_of : Complex → List Term → List Term → List NoiseTerm

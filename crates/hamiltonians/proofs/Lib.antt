@@ -1,6 +1,6 @@
 pub mod RealSetLaws
 pub mod RealValidLaws
-pub mod RealMaskLaws
 pub mod RealValidAnswers
 pub mod RealReadingLaws
 pub mod HamiltonianTheorems
+pub mod Instances

@@ -1,31 +1,25 @@
 -- Hamiltonians as a kind of set, for the laws over any kind.
 -- Assumes nothing.
-use mathlib.Core.Path.{◌≡◌, refl}
-use mathlib.Core.List.{List}
-use lib.ListN.{length}
-use Rattle.terms.specs.Keyed.{padded}
-use Rattle.terms.specs.Setting.{most_terms}
+use mathlib.Core.Path.{refl}
+use Rattle.complex.specs.Coefficients.{reals}
 use Rattle.terms.proofs.FilledLaws.{Sets}
-use Rattle.hamiltonians.specs.Reals.{blank, filled}
-use Rattle.hamiltonians.specs.declared.pauli_hamiltonian.RealTerm.{RealTerm}
-use Rattle.hamiltonians.specs.declared.pauli_hamiltonian.PauliHamiltonian.{PauliHamiltonian}
-
--- the set that holds given terms, by its count and its places
-pub filled_is : (l : List RealTerm) → filled l ≡ record { count = length l; terms = padded most_terms blank l }
-unfolding filled
-filled_is l = refl
+use Rattle.term_sets.specs.Keys.{item_keys}
+use Rattle.term_sets.proofs.SetLaws.{sets}
+use Rattle.hamiltonians.specs.Reals.{RealTerm, filled}
+use Rattle.hamiltonians.specs.declared.PauliHamiltonian.{PauliHamiltonian}
 
 -- this kind of set
 abbrev pub real_sets : Sets RealTerm PauliHamiltonian
 real_sets =
+    let T = sets item_keys reals in
     record {
-      blank = blank;
-      count = λ s. s.count;
-      places = λ s. s.terms;
-      make = λ n t. record { count = n; terms = t };
+      blank = T.blank;
+      count = λ s. T.count s.terms;
+      places = λ s. T.places s.terms;
+      make = λ n t. record { terms = T.make n t };
       filled = filled;
       made = λ s. refl;
-      made-count = λ n t. refl;
-      made-places = λ n t. refl;
-      fills = filled_is;
+      made-count = T.made-count;
+      made-places = T.made-places;
+      fills = λ l j. record { terms = T.fills l j };
     }

@@ -13,7 +13,7 @@ use Rattle.terms.proofs.AnswerLaws.{Answered, answered_given, answered_past}
 use Rattle.terms.proofs.ValidSetLaws as laws
 use Rattle.hamiltonians.specs.Reals.{complex_of, valid_set}
 use Rattle.hamiltonians.specs.RealAnswers.{set_real, add_real, conjugate_real}
-use Rattle.hamiltonians.specs.declared.pauli_hamiltonian.PauliHamiltonian.{PauliHamiltonian}
+use Rattle.hamiltonians.specs.declared.PauliHamiltonian.{PauliHamiltonian}
 use Rattle.hamiltonians.proofs.RealValidLaws.{valid_hamiltonians}
 
 -- ---- one term

@@ -1,3 +1,2 @@
 pub mod Reals
 pub mod RealAnswers
-pub mod RealMasks

@@ -1,18 +1,16 @@
 -- What the entries on Hamiltonians answer, refusals first in their order: 0, then 5, then 6.
 -- Document 01: pauli_hamiltonian.rs and `Numbers of the no`.
-use Rattle.std.specs.Prelude.{not, cond, List, [], Float}
-use Rattle.refusal.specs.Refusals.{Said, gives, refuses, done, said}
+use Rattle.std.specs.Prelude.{Result, not, cond, List, [], Float}
+use Rattle.refusal.specs.Refusals.{Said, gives, refuses, done, told_by}
+use Rattle.refusal.specs.declared.Refusal.{Refusal}
 use Rattle.complex.specs.Complex.{part_in_range}
 use Rattle.complex.specs.declared.Complex.{Complex}
 use Rattle.items.specs.Record.{valid}
 use Rattle.items.specs.declared.Items.{Items}
 use Rattle.terms.specs.Setting.{coefficient_at}
 use Rattle.terms.specs.Entries.{set_in, add_in}
-use Rattle.term_sets.specs.Answers.{said_set}
+use Rattle.hamiltonians.specs.declared.PauliHamiltonian.{PauliHamiltonian}
 use Rattle.hamiltonians.specs.Reals.{real_terms, complex_of, held_by, filled, valid_set}
-use Rattle.hamiltonians.specs.declared.pauli_hamiltonian.PauliHamiltonian.{PauliHamiltonian}
-use Rattle.hamiltonians.specs.declared.pauli_hamiltonian.HamiltonianAfterSet.{HamiltonianAfterSet}
-use Rattle.hamiltonians.specs.declared.pauli_hamiltonian.HamiltonianAnswer.{HamiltonianAnswer}
 
 unfoldable pub get_real : PauliHamiltonian → Items → Said Complex
 get_real s k =
@@ -38,8 +36,6 @@ add_real s k a =
 unfoldable pub conjugate_real : PauliHamiltonian → Said Unit × PauliHamiltonian
 conjugate_real s = cond (not (valid_set s)) (refuses 0 [], s) (done, s)
 
-abbrev pub told_set : HamiltonianAfterSet → Said (List Complex) × PauliHamiltonian
-told_set r = (said_set r.answer, r.set)
-
-abbrev pub told : HamiltonianAnswer → Said Unit × PauliHamiltonian
-told r = (said r.outcome, r.set)
+-- with the Hamiltonian that the caller then has: the answer's, or, refused, the one before
+abbrev pub told : PauliHamiltonian → Result PauliHamiltonian Refusal → Said Unit × PauliHamiltonian
+told before r = told_by before (λ h. h) r

@@ -107,10 +107,6 @@ pub record Zeros (count : ℕ) (sites letters : List ℕ) (i a b : ℕ) : Type 0
   pub letter : 0 < b → every capacity (place_valid count sites letters) ≡ false
 
 module _ {count : ℕ} {sites letters : List ℕ} where
-  pub zeros_none : count ≤ capacity → every count (place_valid count sites letters) ≡ true → Zeros count sites letters count 0 0
-  zeros_none h e =
-      record { past = omega arith; within = h; none = λ y z. e; site = λ z. absurd (omega arith); letter = λ z. absurd (omega arith) }
-
   module _ {i a b : ℕ} (z : Zeros count sites letters i a b) where
     -- a site or a letter that is not zero
     site_there : i < capacity → 0 < at sites i → every capacity (place_valid count sites letters) ≡ false
@@ -317,27 +313,6 @@ pub letter-beyond : (p : Items) → valid p ≡ true → (s : ℕ) → reach p �
 letter-beyond p v s h = letter_free p s (λ i l e. omega (arith, site_below-reach p v i l))
 
 -- ---- a scan for a site from place 0 on
-
--- none of the first i places has site s
-pub record Passed (sites : List ℕ) (count s i : ℕ) : Type 0 where
-  pub within : i ≤ count
-  pub others : (j : ℕ) → j < i → at sites j ≡ s → ⊥
-
-pub passed_none : (sites : List ℕ) (count s : ℕ) → Passed sites count s 0
-passed_none sites count s = record { within = omega arith; others = λ j l. absurd (not-suc-le-zero l) }
-
-pub passed_more : {sites : List ℕ} {count s i : ℕ} → Passed sites count s i → i < count → (at sites i ≡ s → ⊥) → Passed sites count s (i + 1)
-passed_more {sites} {count} {s} {i} h l n =
-    record {
-      within = omega arith;
-      others = λ j m e. ⊎_elim (λ q. n (ap (at sites) (sym q) ∙ e)) (λ q. h.others j q e) (below_cases j i (omega arith));
-    }
-
-pub passed_done : (p : Items) {s i : ℕ} → Passed p.sites p.count s i → p.count ≤ i → 0 ≡ letter_at p s
-passed_done p {s} {i} h l = sym (letter_free p s (λ j m. h.others j (omega arith)))
-
-pub passed_found : (p : Items) (s i : ℕ) → valid p ≡ true → i < p.count → at p.sites i ≡ s → at p.letters i ≡ letter_at p s
-passed_found p s i v l e = sym (letter_here p v i l) ∙ ap (letter_at p) e
 
 -- the number after the site of the last place is the reach
 pub reach-from : (p : Items) {next : ℕ} → (p.count ≡ 0 → ⊥) → next ≡ at p.sites (p.count - 1) + 1 → next ≡ reach p

@@ -6,15 +6,10 @@ use mathlib.Core.List.{[]}
 use Prim.Native.Nat.{ℕ, ◌≤◌, ◌<◌}
 use lib.Dec.{ltb}
 use borrow.Author.Tests.{lt-ltb, le-ltb, ltb-false}
-use Rattle.std.specs.Prelude.{Result, Ok}
-use Rattle.std.specs.Result.{IsOk}
 use Rattle.refusal.specs.Refusals.{refuses}
-use Rattle.refusal.specs.declared.Refusal.{Refusal}
 use Rattle.letters.specs.Matrices.{Letters}
-use Rattle.letters.specs.Single.{letter_of, power_of, times, conjugated, converted}
-use Rattle.letters.specs.Answers.{highest_letter, decoded, multiply_letters, conjugate_letter, convert_letter, said_letter}
-use Rattle.letters.specs.declared.Scaled.{Scaled}
-use Rattle.letters.proofs.ReadingLaws.{letter_known}
+use Rattle.letters.specs.Single.{times, conjugated, converted}
+use Rattle.letters.specs.Answers.{highest_letter, decoded, multiply_letters, conjugate_letter, convert_letter}
 
 -- ---- letters that are answered
 
@@ -50,13 +45,3 @@ unfolding convert_letter
 convert_refused M M' l h = rw (lt-ltb highest_letter l h)
 
 -- ---- what an answer with a code is
-
--- the letter and the power of i of a code
-abbrev pub scaled_of : ℕ → Scaled
-scaled_of e = record { letter = letter_of e; power = power_of e }
-
-pub given_is : (a : Result Scaled Refusal) (e : ℕ) → said_letter a ≡ decoded e → a ≡ Ok (scaled_of e)
-given_is a e h = letter_known a (Ok (scaled_of e)) h
-
-pub given_ok : (a : Result Scaled Refusal) (e : ℕ) → said_letter a ≡ decoded e → IsOk a
-given_ok a e h = rw (given_is a e h)

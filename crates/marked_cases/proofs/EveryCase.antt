@@ -19,6 +19,7 @@ use Rattle.row_entries.specs.Answers.{row_answer}
 use Rattle.ordering.specs.Orders.{and_then, compare_numbers, compare_lists, pairs, key_of, compare_items, compare_answer}
 use Rattle.terms.specs.Keyed.{has, each, concat_map}
 use Rattle.terms.specs.Places.{good_term, valid_places}
+use Rattle.term_sets.specs.Sets.{filled, is_blank, valid_set}
 use Rattle.master_equation.specs.Equation.{δ, 𝟚, commutator, adjoint_product, dissipator}
 use Rattle.rows.specs.HalfUnits.{minus_half_unit}
 use Rattle.master_equation.specs.Contributions.{operator_terms, commutator_terms, noise_terms}
@@ -26,10 +27,8 @@ use Rattle.rows.specs.Placing.{placed, place_all, row_of, nonzero, kept_by, row_
 use Rattle.sorted_lists.specs.Sorting.{up_to}
 use Rattle.master_equation.specs.Sums.{value_at}
 use Rattle.rows.specs.Calls.{outside, unless_outside, checked_row}
-use Rattle.hamiltonians.specs.Reals as reals
 use Rattle.contributions.specs.TermContributions.{commutator_contributions, noise_contributions}
 use Rattle.operator_rows.specs.OperatorRows.{commutator_row_of, hamiltonian_commutator_row}
-use Rattle.noise_sets.specs.Pairs as noise
 use Rattle.noise_sets.specs.Pairs.{sides_of}
 use Rattle.open_rows.specs.NoiseRows.{noise_row}
 use Rattle.marked_cases.specs.Outcomes.{outcome}
@@ -45,6 +44,6 @@ unfolding outcome table
     and_then compare_numbers compare_lists pairs key_of compare_items compare_answer
     δ 𝟚 commutator adjoint_product dissipator minus_half_unit operator_terms commutator_terms noise_terms
     placed place_all row_of nonzero up_to value_at kept_by row_in outside unless_outside checked_row
-    has each concat_map good_term valid_places reals.filled reals.is_blank reals.valid_set noise.filled noise.is_blank noise.valid_set
+    has each concat_map good_term valid_places filled is_blank valid_set
     commutator_contributions commutator_row_of hamiltonian_commutator_row sides_of noise_contributions noise_row
 every_case = refl

@@ -11,7 +11,7 @@ use lib.ListN.{set, length-set}
 use lib.Seq.{get_or-set_same, get_or-set_other}
 use Rattle.letters.specs.Answers.{highest_letter}
 use Rattle.items.specs.Lists.{at}
-use Rattle.items.specs.Record.{capacity, highest_site, valid, letter_at, reach, record_of, update}
+use Rattle.items.specs.Record.{highest_site, valid, letter_at, reach, record_of, update}
 use Rattle.items.specs.declared.Items.{Items}
 use Rattle.items.proofs.RecordLaws.{valid_shape, valid-at, valid_past, ascending}
 use Rattle.items.proofs.RecordLaws.{letter_here, letter_code, letter_occupied, letter-beyond, site_below-reach}

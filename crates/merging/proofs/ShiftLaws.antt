@@ -1,6 +1,6 @@
 -- Arrays in which a place is made or closed: a part of the array is turned round by one, and the place at its end is written.
 -- Assumes nothing.
-use Rattle.std.proofs.Common.{◌≡◌, ℕ, suc, ◌+◌, ◌-◌, ◌≤◌, ◌<◌, List, length, take, drop, ap, sym, ◌∙◌, arith, rules}
+use Rattle.std.proofs.Common.{◌≡◌, ℕ, suc, ◌+◌, ◌-◌, ◌≤◌, ◌<◌, List, length, ap, sym, ◌∙◌, arith, rules}
 use Rattle.std.proofs.Math.ListN.{set, length-set}
 use Rattle.std.proofs.lemmas.List.{places, get_or-set_same, get_or-set_other}
 use Rattle.std.specs.List.{RotatedLeft, RotatedRight}

@@ -1,11 +1,12 @@
 -- One step of bringing two products together: the next site of each, the places that it looks at, and the answer of `Kind::multiply` on two codes.
 -- Assumes nothing.
-use Rattle.std.proofs.Common.{◌≡◌, true, ℕ, suc, ◌+◌, ◌≤◌, ◌<◌, List, Result, Ok, Err, refl, sym, ap, ◌∙◌, arith}
+use Rattle.std.proofs.Common.{◌≡◌, true, ℕ, suc, ◌+◌, ◌≤◌, ◌<◌, List, Result, Ok, refl, ap, ◌∙◌, arith}
 use Rattle.std.specs.Result.{IsOk}
 use native.Mathlib.Decide.{dec_lt}
 use borrow.Author.Tests.{lt-ltb, le-ltb}
-use Rattle.refusal.specs.Refusals.{gives, said_by}
+use Rattle.refusal.specs.Refusals.{gives}
 use Rattle.refusal.specs.declared.Refusal.{Refusal}
+use Rattle.refusal.proofs.RefusalLaws.{said_ok, said_value}
 use Rattle.letters.specs.Matrices.{Letters}
 use Rattle.letters.specs.Single.{letter_of, power_of, times}
 use Rattle.letters.specs.Answers.{said_letter, multiply_letters, highest_letter}
@@ -55,15 +56,6 @@ module _ (p q : Items) (v : valid p ≡ true) (w : valid q ≡ true) (i j : ℕ)
       ]
 
 -- ---- the answer on two codes
-
--- a result that gives a value is one
-said_ok : {V A : Type 0} (show : V → A) (x : Result V Refusal) (a : A) → said_by show x ≡ gives a → IsOk x
-said_ok show (Ok y) a e = refl
-said_ok show (Err why) a e = cc
-
--- and its value reads so
-said_value : {V A : Type 0} (show : V → A) (x : Result V Refusal) (y : V) (a : A) → x ≡ Ok y → said_by show x ≡ gives a → show y ≡ a
-said_value show x y a q e = let f : gives (show y) ≡ gives a = sym (ap (said_by show) q) ∙ e in cc
 
 -- of two codes below 4 `multiply` gives the product
 module _ (M : Letters) (l r : ℕ) (h : l < 4) (k : r < 4) (x : Result Scaled Refusal) (e : said_letter x ≡ multiply_letters M l r) where

@@ -23,19 +23,14 @@ use Rattle.terms.proofs.EachLaws.{all_results, all_lists}
 use Rattle.terms.proofs.AnswerLaws.{Answered, answered_past, answered_unless, not_both}
 use Rattle.terms.proofs.StepLaws.{given-same, giving_terms}
 use Rattle.terms.proofs.ValidSetLaws as laws
-use Rattle.term_sets.specs.Complexes.{complex_terms, complex_products}
+use Rattle.term_sets.specs.Complexes.{Term, TermSet, complex_terms, complex_products}
 use Rattle.term_sets.specs.Complexes as operators
-use Rattle.term_sets.specs.declared.Term.{Term}
-use Rattle.term_sets.specs.declared.TermSet.{TermSet}
 use Rattle.chains.proofs.ValidAnswers.{HasValid, held_products}
-use Rattle.noise_sets.specs.Pairs.{Key, pair_terms, pair_of, is_empty, held_by, good_key, valid_set}
-use Rattle.noise_sets.specs.Answers.{valid_key, empty_side}
-use Rattle.noise_writing.specs.WritingAnswers.{set_pair, add_pair}
+use Rattle.noise_sets.specs.Pairs.{Key, NoiseTerm, NoiseSet, pair_terms, pair_of, is_empty, held_by, good_key, valid_set}
+use Rattle.noise_sets.specs.Answers.{valid_key, empty_side, set_pair, add_pair}
 use Rattle.full_operators.specs.FullAnswers.{add_full_operators}
 use Rattle.noise_remapping.specs.RemapAnswers.{remap_step, remap_set}
-use Rattle.noise_sets.specs.declared.NoiseTerm.{NoiseTerm}
-use Rattle.noise_sets.specs.declared.NoiseSet.{NoiseSet}
-use Rattle.noise_sets.proofs.ValidLaws.{valid_noise_sets, key_of, key_good, valid-keys}
+use Rattle.noise_sets.proofs.ValidLaws.{valid_noise_sets, key_good, valid-keys}
 
 -- ---- one term
 
@@ -76,7 +71,7 @@ module _ (s : NoiseSet) (k : Key) (a : Complex) where
 
 -- a term's key is good
 abbrev HasGood : NoiseTerm → Type 0
-HasGood t = good_key (key_of t) ≡ true
+HasGood t = good_key t.key ≡ true
 
 -- terms that a chain on noise sets can hold, and those of a valid set
 abbrev Sound : List NoiseTerm → Type 0
@@ -96,7 +91,7 @@ pair_good p q a v w = go (not (is_empty p) && not (is_empty q)) refl
 -- the pairs of two operators' terms
 full_good : (a : Complex) (l r : List Term) → All HasValid l → All HasValid r → All HasGood (full_terms complex_terms pair_terms complex_products is_empty a l r)
 unfolding full_terms
-full_good a l r hl hr = all_lists HasValid HasGood _ (λ x hx. all_lists HasValid HasGood _ (λ y hy. pair_good x.items y.items _ hx hy) r hr) l hl
+full_good a l r hl hr = all_lists HasValid HasGood _ (λ x hx. all_lists HasValid HasGood _ (λ y hy. pair_good x.key y.key _ hx hy) r hr) l hl
 
 module _ (s : NoiseSet) (l r : TermSet) (a : Complex) where
   full_answer : Answered (λ x. valid_set x ≡ true) s (add_full_operators s l r a)
@@ -161,14 +156,14 @@ unfolding remap_step
 step_good t x g y e = go left.0 right.0 refl refl e
   where
     left : Said Unit × Items
-    left = remap_answer t x.left
+    left = remap_answer t x.key.0
 
     right : Said Unit × Items
-    right = remap_answer t x.right
+    right = remap_answer t x.key.1
 
     go : (a b : Said Unit) → left.0 ≡ a → right.0 ≡ b
         → and_then (and_then a (λ u. gives left.1)) (λ p. and_then (and_then b (λ u. gives right.1)) (λ q. gives (pair_of (p, q) x.coefficient))) ≡ gives y → HasGood y
-    go (gives u) (gives v) d f h = subst HasGood (given-same _ y h) (moved_good t (key_of x) g d f)
+    go (gives u) (gives v) d f h = subst HasGood (given-same _ y h) (moved_good t x.key g d f)
     go (gives u) (refuses n l) d f h = absurd (not_both y n l (sym h))
     go (refuses n l) b d f h = absurd (not_both y n l (sym h))
 
@@ -178,7 +173,7 @@ module _ (t : ℕ → ℕ) (s : NoiseSet) where
   remap_answer_lem =
       answered_past (valid_set s) _ _ _ (λ v.
       laws.chain_valid valid_noise_sets s (map (remap_step t) (held_by s)) []
-      (all_results HasGood _ (remap_step t) (step_good t) (held_by s) (all_each (λ x. good_key (key_of x)) (held_by s) (valid-keys s v)))
+      (all_results HasGood _ (remap_step t) (step_good t) (held_by s) (all_each (λ x. good_key x.key) (held_by s) (valid-keys s v)))
       (laws.sound_none valid_noise_sets))
 
   -- an accepted remapping is valid

@@ -1,14 +1,10 @@
 -- What an answer about a noise operator says, in the words of the answers about sets.
-use Rattle.std.specs.Prelude.{List}
-use Rattle.refusal.specs.Refusals.{Said, said}
-use Rattle.complex.specs.declared.Complex.{Complex}
-use Rattle.term_sets.specs.Answers.{said_set}
-use Rattle.noise_sets.specs.declared.NoiseSet.{NoiseSet}
-use Rattle.noise.specs.declared.pauli_noise_operator.NoiseOperatorAfterSet.{NoiseOperatorAfterSet}
-use Rattle.noise.specs.declared.pauli_noise_operator.NoiseOperatorAnswer.{NoiseOperatorAnswer}
+use Rattle.std.specs.Prelude.{Result}
+use Rattle.refusal.specs.Refusals.{Said, told_by}
+use Rattle.refusal.specs.declared.Refusal.{Refusal}
+use Rattle.noise_sets.specs.Pairs.{NoiseSet}
+use Rattle.noise.specs.declared.PauliLindbladNoiseOperator.{PauliLindbladNoiseOperator}
 
-abbrev pub told_noise_set : NoiseOperatorAfterSet → Said (List Complex) × NoiseSet
-told_noise_set r = (said_set r.answer, r.operator.set)
-
-abbrev pub told_noise : NoiseOperatorAnswer → Said Unit × NoiseSet
-told_noise r = (said r.outcome, r.operator.set)
+-- with the set of the operator that the caller then has: the answer's, or, refused, the one before
+abbrev pub told_noise : NoiseSet → Result PauliLindbladNoiseOperator Refusal → Said Unit × NoiseSet
+told_noise before r = told_by before (λ s. s.set) r

@@ -1,4 +1,3 @@
 pub mod SetLaws
 pub mod ValidLaws
-pub mod MaskedLaws
-pub mod ReadingLaws
+pub mod Instances

@@ -1,4 +1,4 @@
--- Two lists compared place by place, of one length or of two; and two tests of which the second may be passed over.
+-- Two lists compared place by place, of one length or of two.
 -- Assumes nothing.
 use Rattle.std.proofs.Common.{◌≡◌, Bool, true, false, List, [], ◌∷◌, ◌&&◌, refl, sym, ◌∙◌, ap, length, arith}
 use Rattle.std.specs.List.{list_all, zip}
@@ -22,13 +22,3 @@ module _ {A : Type 0} (same : A → A → Bool) where
   lengths_differ [] (y ∷ ys) h = refl
   lengths_differ (x ∷ xs) [] h = refl
   lengths_differ (x ∷ xs) (y ∷ ys) h = sym (ap (λ b. same x y && b) (sym (lengths_differ xs ys (λ e. h (omega (arith, e))))) ∙ and_false (same x y))
-
--- ---- two tests
-
--- the first passes, and the second decides
-pub second_decides : {a b p q : Bool} → a ≡ p → a ≡ true → b ≡ q → b ≡ (p && q)
-second_decides {a} {b} {p} {q} e t f = let h : p ≡ true = sym e ∙ t in rw h f
-
--- the first fails
-pub first_decides : {a p : Bool} (q : Bool) → a ≡ p → a ≡ false → a ≡ (p && q)
-first_decides {a} {p} q e f = let h : p ≡ false = sym e ∙ f in rw h f

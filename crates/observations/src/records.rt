@@ -1,10 +1,10 @@
 // Whether two records are the same in every place, those past the counts too: parts to the bit, or as numbers, where +0 equals -0.
 ghost use Rattle.std.specs.Prelude.{◌≡◌, Bool};
-ghost use Rattle.observations.specs.Records.{bits_of, same_lists, complex_set};
+ghost use Rattle.observations.specs.Records.{bits_of, same_lists};
 
 use spins::{
-    Complex, DecoherenceOperator, NoiseSet, NoiseTerm, PauliHamiltonian,
-    PauliLindbladNoiseOperator, PauliLindbladOpenSystem, PauliOperator, Term, TermSet,
+    Alphabet, Complex, Items, Operator, PauliHamiltonian, PauliLindbladNoiseOperator,
+    PauliLindbladOpenSystem, Set, Term,
 };
 
 // The bits of a float; those of all NaN alike.
@@ -46,24 +46,35 @@ impl Same for Complex {
     }
 }
 
-impl Same for Term {
-    ghost use Rattle.observations.specs.Records.{same_term};
+// A product has no parts.
+impl Same for Items {
+    ghost use Rattle.items.specs.Record.{same_items};
 
-    ghost same = { same_term };
+    ghost same = { λ to_the_bit p q. same_items p q };
 
-    fn same(&self, to_the_bit: bool, other: &Term) -> bool {
-        self.items == other.items && self.coefficient.same(to_the_bit, &other.coefficient)
+    #[tactic(auto, using(items::proofs::SameLaws::items_eq))]
+    fn same(&self, _to_the_bit: bool, other: &Items) -> bool {
+        *self == *other
     }
 }
 
-impl Same for NoiseTerm {
-    ghost use Rattle.observations.specs.Records.{same_pair};
+impl<A: Same, B: Same> Same for (A, B) {
+    ghost use Rattle.std.specs.Prelude.{◌&&◌};
 
-    ghost same = { same_pair };
+    ghost same = { λ to_the_bit x y. A.same to_the_bit x.0 y.0 && B.same to_the_bit x.1 y.1 };
 
-    fn same(&self, to_the_bit: bool, other: &NoiseTerm) -> bool {
-        self.left == other.left
-            && self.right == other.right
+    fn same(&self, to_the_bit: bool, other: &(A, B)) -> bool {
+        self.0.same(to_the_bit, &other.0) && self.1.same(to_the_bit, &other.1)
+    }
+}
+
+impl<K: Same, N: Same> Same for Term<K, N> {
+    ghost use Rattle.observations.specs.Records.{same_term};
+
+    ghost same = { λ to_the_bit. same_term (K.same to_the_bit) (N.same to_the_bit) };
+
+    fn same(&self, to_the_bit: bool, other: &Term<K, N>) -> bool {
+        self.key.same(to_the_bit, &other.key)
             && self.coefficient.same(to_the_bit, &other.coefficient)
     }
 }
@@ -75,68 +86,32 @@ fn same_lists<T: Same>(to_the_bit: bool, xs: &[T], ys: &[T]) -> bool
     xs.len() == ys.len() && xs.iter().zip(ys).all(|(x, y)| x.same(to_the_bit, y))
 }
 
-impl Same for TermSet {
-    ghost use Rattle.observations.specs.Records.{same_terms};
+impl<K: Same, N: Same> Same for Set<K, N> {
+    ghost use Rattle.observations.specs.Records.{same_set};
 
-    ghost same = { same_terms };
+    ghost same = { λ to_the_bit. same_set (K.same to_the_bit) (N.same to_the_bit) };
 
-    fn same(&self, to_the_bit: bool, other: &TermSet) -> bool {
+    fn same(&self, to_the_bit: bool, other: &Set<K, N>) -> bool {
         self.count == other.count && same_lists(to_the_bit, &self.terms, &other.terms)
-    }
-}
-
-impl Same for NoiseSet {
-    ghost use Rattle.observations.specs.Records.{same_pairs};
-
-    ghost same = { same_pairs };
-
-    fn same(&self, to_the_bit: bool, other: &NoiseSet) -> bool {
-        self.count == other.count && same_lists(to_the_bit, &self.terms, &other.terms)
-    }
-}
-
-// The terms of a Hamiltonian, those past its count too; each second part is +0.
-pub fn complex_terms(h: PauliHamiltonian) -> TermSet
-    ensures { result ≡ complex_set h }
-{
-    TermSet {
-        count: h.count,
-        terms: h.terms.map(|t| Term {
-            items: t.items,
-            coefficient: Complex {
-                re: t.coefficient,
-                im: 0.0,
-            },
-        }),
     }
 }
 
 impl Same for PauliHamiltonian {
-    ghost use Rattle.observations.specs.Records.{same_terms};
+    ghost use Rattle.observations.specs.Records.{same_reals};
 
-    ghost same = { λ to_the_bit a b. same_terms to_the_bit (complex_set a) (complex_set b) };
+    ghost same = { λ to_the_bit a b. same_reals to_the_bit a.terms b.terms };
 
     fn same(&self, to_the_bit: bool, other: &PauliHamiltonian) -> bool {
-        complex_terms(*self).same(to_the_bit, &complex_terms(*other))
-    }
-}
-
-impl Same for PauliOperator {
-    ghost use Rattle.observations.specs.Records.{same_terms};
-
-    ghost same = { λ to_the_bit a b. same_terms to_the_bit a.terms b.terms };
-
-    fn same(&self, to_the_bit: bool, other: &PauliOperator) -> bool {
         self.terms.same(to_the_bit, &other.terms)
     }
 }
 
-impl Same for DecoherenceOperator {
+impl<K: Alphabet> Same for Operator<K> {
     ghost use Rattle.observations.specs.Records.{same_terms};
 
     ghost same = { λ to_the_bit a b. same_terms to_the_bit a.terms b.terms };
 
-    fn same(&self, to_the_bit: bool, other: &DecoherenceOperator) -> bool {
+    fn same(&self, to_the_bit: bool, other: &Operator<K>) -> bool {
         self.terms.same(to_the_bit, &other.terms)
     }
 }
@@ -153,9 +128,9 @@ impl Same for PauliLindbladNoiseOperator {
 
 impl Same for PauliLindbladOpenSystem {
     ghost use Rattle.std.specs.Prelude.{◌&&◌};
-    ghost use Rattle.observations.specs.Records.{same_terms, same_pairs};
+    ghost use Rattle.observations.specs.Records.{same_reals, same_pairs};
 
-    ghost same = { λ to_the_bit a b. same_terms to_the_bit (complex_set a.system) (complex_set b.system) && same_pairs to_the_bit a.noise.set b.noise.set };
+    ghost same = { λ to_the_bit a b. same_reals to_the_bit a.system.terms b.system.terms && same_pairs to_the_bit a.noise.set b.noise.set };
 
     fn same(&self, to_the_bit: bool, other: &PauliLindbladOpenSystem) -> bool {
         self.system.same(to_the_bit, &other.system) && self.noise.same(to_the_bit, &other.noise)

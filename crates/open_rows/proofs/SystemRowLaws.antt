@@ -15,7 +15,7 @@ use Rattle.rows.specs.Buffers.{most_entries}
 use Rattle.rows.specs.Calls.{unless_malformed, RowCall}
 use Rattle.rows.proofs.DeliveryLaws.{delivered}
 use Rattle.hamiltonians.specs.Reals as reals
-use Rattle.term_sets.specs.declared.Term.{Term}
+use Rattle.term_sets.specs.Complexes.{Term}
 use Rattle.noise_sets.specs.Pairs as pairs
 use Rattle.hamiltonians.specs.Reals.{hamiltonian_terms}
 use Rattle.open_rows.specs.OpenRows.{system_row_of, system_row}

@@ -1,20 +1,26 @@
--- Terms given by arrays: the first n places have the masks of the products of n terms and their coefficients, as judging a set hands them out.
-use Rattle.std.specs.Prelude.{ℕ, ◌≡◌, List, map, length, take, Float}
-use Rattle.items.specs.Masks.{masks_of}
+-- Terms as judging a set hands them out: each one's masks and coefficient.
+use Rattle.std.specs.Prelude.{List, take, Float}
+use Rattle.complex.specs.Coefficients.{complexes}
+use Rattle.complex.specs.declared.Complex.{Complex}
+use Rattle.term_sets.specs.Keys.{item_keys, pair_keys}
+use Rattle.term_sets.specs.Sets.{masked_term}
+use Rattle.term_sets.specs.Complexes.{Term}
+use Rattle.term_sets.specs.declared.judging.MaskedTerm.{MaskedTerm}
+use Rattle.term_sets.specs.declared.judging.MaskedTerms.{MaskedTerms}
 use Rattle.hamiltonians.specs.Reals.{complex_of}
-use Rattle.term_sets.specs.declared.Term.{Term}
-use Rattle.noise_sets.specs.declared.NoiseTerm.{NoiseTerm}
+use Rattle.noise_sets.specs.Pairs.{NoiseTerm}
 
--- terms with real coefficients
-pub record MaskedTerms (masks : List ℕ) (parts : List Float) (n : ℕ) (l : List Term) : Type 0 where
-  pub count : length l ≡ n
-  pub products : take n masks ≡ map (λ t. masks_of t.items) l
-  pub coefficients : map complex_of (take n parts) ≡ map (λ t. t.coefficient) l
+-- the terms that are there
+abbrev pub given : {N : Type 0} → MaskedTerms N → List (MaskedTerm N)
+given m = take m.count m.terms
 
--- noise terms
-pub record MaskedPairs (lefts rights : List ℕ) (res ims : List Float) (n : ℕ) (l : List NoiseTerm) : Type 0 where
-  pub count : length l ≡ n
-  pub left_products : take n lefts ≡ map (λ t. masks_of t.left) l
-  pub right_products : take n rights ≡ map (λ t. masks_of t.right) l
-  pub reals : take n res ≡ map (λ t. t.coefficient.re) l
-  pub imaginaries : take n ims ≡ map (λ t. t.coefficient.im) l
+-- a real coefficient as a complex one
+abbrev pub as_complex : MaskedTerm Float → MaskedTerm Complex
+as_complex t = record { masks = t.masks; coefficient = complex_of t.coefficient }
+
+-- what judging hands out of a term with complex coefficients, and of a noise term
+abbrev pub masked : Term → MaskedTerm Complex
+masked = masked_term item_keys complexes
+
+abbrev pub masked_pair : NoiseTerm → MaskedTerm Complex
+masked_pair = masked_term pair_keys complexes

@@ -7,7 +7,7 @@ use Rattle.rows.specs.Floats.{floats}
 use Rattle.rows.specs.Placing.{row_in}
 use Rattle.rows.specs.Calls.{checked_row}
 use Rattle.noise_sets.specs.Pairs.{held_by, valid_set, sides_of}
-use Rattle.noise.specs.declared.pauli_noise_operator.PauliLindbladNoiseOperator.{PauliLindbladNoiseOperator}
+use Rattle.noise.specs.declared.PauliLindbladNoiseOperator.{PauliLindbladNoiseOperator}
 use Rattle.contributions.specs.TermContributions.{noise_contributions}
 
 unfoldable pub noise_row : PauliLindbladNoiseOperator → ℕ → ℕ → Said (List (ℕ × Complex))

@@ -6,9 +6,9 @@ use Rattle.complex.specs.declared.Complex.{Complex}
 use Rattle.rows.specs.Floats.{floats}
 use Rattle.rows.specs.Placing.{open_row_in}
 use Rattle.rows.specs.Calls.{checked_row}
-use Rattle.term_sets.specs.declared.Term.{Term}
+use Rattle.term_sets.specs.Complexes.{Term}
 use Rattle.noise_sets.specs.Pairs as pairs
-use Rattle.noise_sets.specs.declared.NoiseTerm.{NoiseTerm}
+use Rattle.noise_sets.specs.Pairs.{NoiseTerm}
 use Rattle.hamiltonians.specs.Reals.{hamiltonian_terms}
 use Rattle.contributions.specs.TermContributions.{commutator_contributions, noise_contributions}
 use Rattle.open_system.specs.declared.PauliLindbladOpenSystem.{PauliLindbladOpenSystem}

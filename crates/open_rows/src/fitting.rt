@@ -1,61 +1,47 @@
 // Whether masks show that no product has a site at the spin count or above.
-ghost use Rattle.std.specs.Prelude.{◌≡◌, true, List, [], map, ◌≤◌, length, take};
+ghost use Rattle.std.specs.Prelude.{◌≡◌, true, List, [], map, ◌≤◌, ◌<◌, ◌/◌, ◌%◌, ◌^◌};
 ghost use Rattle.items.specs.Record.{valid};
 ghost use Rattle.row_entries.specs.Answers.{most_spins};
-ghost use Rattle.items.specs.Masks.{masks_of};
-ghost use Rattle.items.specs.declared.Items.{Items};
 ghost use Rattle.terms.specs.Keyed.{each};
 ghost use Rattle.terms.specs.Setting.{most_terms};
 ghost use Rattle.rows.specs.Calls.{outside};
-ghost use Rattle.noise_sets.specs.declared.NoiseTerm.{NoiseTerm};
-ghost use Rattle.term_sets.specs.Complexes.{items_of};
-ghost use Rattle.noise_sets.specs.Pairs as noise_rows;
-ghost use Rattle.term_sets.specs.declared.Term.{Term};
-ghost use Rattle.outside_sites.specs.SystemItems.{system_items};
+ghost use Rattle.noise_sets.specs.Pairs.{NoiseTerm, sides_of};
+ghost use Rattle.term_sets.specs.Complexes.{Term, items_of};
+ghost use Rattle.open_rows.specs.Masked.{given, as_complex, masked, masked_pair};
 
 use items::masks::MASK_SIZE;
 use row_entries::size_of;
-use terms::MOST_TERMS;
+use term_sets::judging::MaskedTerms;
 
-// Whether both halves of each of the first n masks are below 2^spins: then no valid product with these masks has a site at `spins` or above.
-fn fits(masks: &[u64; MOST_TERMS], n: usize, spins: u32) -> bool
-    requires { (n ≤ most_terms) × (spins ≤ most_spins) }
-    ensures { result ≡ true → (ps : List Items) → each (λ p qs. valid p) ps ≡ true → length ps ≡ n → take n masks.now ≡ map masks_of ps → outside spins ps ≡ [] }
+// Whether both halves of a number of masks are below 2^spins.
+fn is_below(masks: u64, spins: u32) -> bool
+    requires { spins ≤ most_spins }
+    ensures { result ≡ true → (masks % 2 ^ 32 < 2 ^ spins) × (masks / 2 ^ 32 < 2 ^ spins) }
+{
+    let size = size_of(spins);
+    masks % MASK_SIZE < size && masks / MASK_SIZE < size
+}
+
+// Whether the masks of a Hamiltonian's terms are: then no valid product with these masks has a site at `spins` or above.
+pub(crate) fn terms_fit(terms: &MaskedTerms<f64>, spins: u32) -> bool
+    requires { (terms.now.count ≤ most_terms) × (spins ≤ most_spins) }
+    ensures { result ≡ true → (h : List Term) → each (λ p qs. valid p) (items_of h) ≡ true → map as_complex (given terms.now) ≡ map masked h → outside spins (items_of h) ≡ [] }
 {
     let mut all: u64 = 0;
-    let mut i: usize = 0;
-    while i < n {
-        all = all | masks[i];
-        i += 1;
+    for i in 0..terms.count {
+        all = all | terms.terms[i].masks.left;
     }
-    let size = size_of(spins);
-    all % MASK_SIZE < size && all / MASK_SIZE < size
+    is_below(all, spins)
 }
 
-// The same of both sides of n noise terms.
-pub(crate) fn pairs_fit(
-    lefts: &[u64; MOST_TERMS],
-    rights: &[u64; MOST_TERMS],
-    n: usize,
-    spins: u32,
-) -> bool
-    requires { (n ≤ most_terms) × (spins ≤ most_spins) }
-    ensures { result ≡ true → (w : List NoiseTerm) → each (λ p qs. valid p) (noise_rows.sides_of w) ≡ true → length w ≡ n → take n lefts.now ≡ map (λ t. masks_of t.left) w → take n rights.now ≡ map (λ t. masks_of t.right) w → outside spins (noise_rows.sides_of w) ≡ [] }
+// Whether the masks of both sides of noise terms are.
+pub(crate) fn pairs_fit(terms: &MaskedTerms<complex::Complex>, spins: u32) -> bool
+    requires { (terms.now.count ≤ most_terms) × (spins ≤ most_spins) }
+    ensures { result ≡ true → (w : List NoiseTerm) → each (λ p qs. valid p) (sides_of w) ≡ true → given terms.now ≡ map masked_pair w → outside spins (sides_of w) ≡ [] }
 {
-    fits(lefts, n, spins) && fits(rights, n, spins)
-}
-
-// The same of m terms of a Hamiltonian and n noise terms.
-pub(crate) fn system_fits(
-    masks: &[u64; MOST_TERMS],
-    m: usize,
-    lefts: &[u64; MOST_TERMS],
-    rights: &[u64; MOST_TERMS],
-    n: usize,
-    spins: u32,
-) -> bool
-    requires { (m ≤ most_terms) × (n ≤ most_terms) × (spins ≤ most_spins) }
-    ensures { result ≡ true → (h : List Term) (w : List NoiseTerm) → each (λ p qs. valid p) (items_of h) ≡ true → each (λ p qs. valid p) (noise_rows.sides_of w) ≡ true → length h ≡ m → take m masks.now ≡ map (λ t. masks_of t.items) h → length w ≡ n → take n lefts.now ≡ map (λ t. masks_of t.left) w → take n rights.now ≡ map (λ t. masks_of t.right) w → outside spins (system_items h w) ≡ [] }
-{
-    fits(masks, m, spins) && pairs_fit(lefts, rights, n, spins)
+    let mut all: u64 = 0;
+    for i in 0..terms.count {
+        all = all | terms.terms[i].masks.left | terms.terms[i].masks.right;
+    }
+    is_below(all, spins)
 }

@@ -1,19 +1,18 @@
 -- Open systems as `new` and `group` give them: they are valid. And an answer of `group` is known by what its reading says.
 -- Assumes nothing.
-use mathlib.Core.Path.{◌≡◌, ap}
+use mathlib.Core.Path.{◌≡◌}
 use mathlib.Core.Bool.{true}
-use Rattle.refusal.specs.Refusals.{Said, done}
-use Rattle.refusal.proofs.RefusalLaws.{outcome_known}
+use Rattle.refusal.specs.Refusals.{done}
+use Rattle.refusal.proofs.RefusalLaws.{OneToOne, told_by_known}
 use Rattle.terms.proofs.AnswerLaws.{Answered, answered_past, answered_given}
 use Rattle.hamiltonians.specs.Reals as reals
-use Rattle.hamiltonians.specs.declared.pauli_hamiltonian.PauliHamiltonian.{PauliHamiltonian}
+use Rattle.hamiltonians.specs.declared.PauliHamiltonian.{PauliHamiltonian}
 use Rattle.hamiltonians.proofs.RealValidLaws as real-laws
 use Rattle.noise_sets.specs.Pairs as pairs
-use Rattle.noise.specs.declared.pauli_noise_operator.PauliLindbladNoiseOperator.{PauliLindbladNoiseOperator}
+use Rattle.noise.specs.declared.PauliLindbladNoiseOperator.{PauliLindbladNoiseOperator}
 use Rattle.noise_sets.proofs.ValidLaws as pair-laws
 use Rattle.open_system.specs.Grouping.{valid_system, empty_system, group_answer, told_system}
 use Rattle.open_system.specs.declared.PauliLindbladOpenSystem.{PauliLindbladOpenSystem}
-use Rattle.open_system.specs.declared.OpenSystemAnswer.{OpenSystemAnswer}
 
 -- two valid sets are a valid system
 sets_valid : (s : PauliLindbladOpenSystem) → reals.valid_set s.system ≡ true → pairs.valid_set s.noise.set ≡ true → valid_system s ≡ true
@@ -33,7 +32,5 @@ group_valid h w s e =
     a.holds tt s e
 
 -- the reading of its answers is one to one
-pub told_system_known : (a b : OpenSystemAnswer) → told_system a ≡ told_system b → a ≡ b
-told_system_known a b e =
-    let o = outcome_known a.outcome b.outcome (ap (λ (z : Said Unit × PauliLindbladOpenSystem). z.0) e) in
-    λ j. record { outcome = o j; system = (e j).1 }
+pub told_system_known : (before : PauliLindbladOpenSystem) → OneToOne (told_system before)
+told_system_known before = told_by_known before (λ s. s) (λ x y e. e)

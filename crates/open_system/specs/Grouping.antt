@@ -1,12 +1,12 @@
 -- A Hamiltonian and a noise operator as an open system. Document 01, pauli_open_system.rs: `group`, and number 0.
-use Rattle.std.specs.Prelude.{not, cond, Bool, false, []}
-use Rattle.refusal.specs.Refusals.{Said, refuses, done, said}
+use Rattle.std.specs.Prelude.{Result, not, cond, Bool, false, []}
+use Rattle.refusal.specs.Refusals.{Said, refuses, done, told_by}
+use Rattle.refusal.specs.declared.Refusal.{Refusal}
 use Rattle.hamiltonians.specs.Reals as reals
-use Rattle.hamiltonians.specs.declared.pauli_hamiltonian.PauliHamiltonian.{PauliHamiltonian}
+use Rattle.hamiltonians.specs.declared.PauliHamiltonian.{PauliHamiltonian}
 use Rattle.noise_sets.specs.Pairs as pairs
-use Rattle.noise.specs.declared.pauli_noise_operator.PauliLindbladNoiseOperator.{PauliLindbladNoiseOperator}
+use Rattle.noise.specs.declared.PauliLindbladNoiseOperator.{PauliLindbladNoiseOperator}
 use Rattle.open_system.specs.declared.PauliLindbladOpenSystem.{PauliLindbladOpenSystem}
-use Rattle.open_system.specs.declared.OpenSystemAnswer.{OpenSystemAnswer}
 
 -- what `new` gives
 abbrev pub empty_system : PauliLindbladOpenSystem
@@ -23,8 +23,9 @@ group_answer h w =
     (cond (not (pairs.valid_set w.set)) (refuses 0 [], together h w)
     (done, together h w))
 
-abbrev pub told_system : OpenSystemAnswer → Said Unit × PauliLindbladOpenSystem
-told_system r = (said r.outcome, r.system)
+-- with the system of what the caller then has: refused, that of the two as they were given
+abbrev pub told_system : PauliLindbladOpenSystem → Result PauliLindbladOpenSystem Refusal → Said Unit × PauliLindbladOpenSystem
+told_system before r = told_by before (λ s. s) r
 
 -- number 0 lets both sets pass
 unfoldable pub valid_system : PauliLindbladOpenSystem → Bool

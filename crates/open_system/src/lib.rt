@@ -2,11 +2,11 @@
 #![tactic(auto)]
 
 ghost use Rattle.std.specs.Prelude.{◌≡◌};
-ghost use Rattle.open_system.specs.Grouping.{empty_system, group_answer, told_system};
+ghost use Rattle.open_system.specs.Grouping.{empty_system, together, group_answer, told_system};
 
-use hamiltonians::pauli_hamiltonian::PauliHamiltonian;
-use noise::pauli_noise_operator::PauliLindbladNoiseOperator;
-use refusal::{Outcome, Refusal};
+use hamiltonians::PauliHamiltonian;
+use noise::PauliLindbladNoiseOperator;
+use refusal::Refusal;
 
 #[derive(Clone, Copy)]
 pub struct PauliLindbladOpenSystem {
@@ -14,45 +14,28 @@ pub struct PauliLindbladOpenSystem {
     pub noise: PauliLindbladNoiseOperator,
 }
 
-// A system, and whether number 0 lets its parts pass.
-#[derive(Clone, Copy)]
-pub struct OpenSystemAnswer {
-    pub outcome: Outcome,
-    pub system: PauliLindbladOpenSystem,
-}
-
 impl PauliLindbladOpenSystem {
     // The system without terms.
     pub fn new() -> PauliLindbladOpenSystem
         ensures { result ≡ empty_system }
     {
-        let h = PauliHamiltonian::new();
-        let n = PauliLindbladNoiseOperator::new();
         PauliLindbladOpenSystem {
-            system: h,
-            noise: n,
+            system: PauliHamiltonian::new(),
+            noise: PauliLindbladNoiseOperator::new(),
         }
     }
 
-    // A Hamiltonian and a noise operator as one system, both judged by 0; beside a refusal they stand as they were given.
-    pub fn group(system: PauliHamiltonian, noise: PauliLindbladNoiseOperator) -> OpenSystemAnswer
-        ensures { told_system result ≡ group_answer system noise }
+    // A Hamiltonian and a noise operator as one system, both judged by 0.
+    #[tactic(auto, unfolding(crate::specs::Grouping::group_answer))]
+    pub fn group(
+        system: PauliHamiltonian,
+        noise: PauliLindbladNoiseOperator,
+    ) -> Result<PauliLindbladOpenSystem, Refusal>
+        ensures { told_system (together system noise) result ≡ group_answer system noise }
     {
-        if !system.is_valid() {
-            return OpenSystemAnswer {
-                outcome: Outcome::Refused(Refusal::Malformed),
-                system: PauliLindbladOpenSystem { system, noise },
-            };
+        if !system.is_valid() || !noise.is_valid() {
+            return Err(Refusal::Malformed);
         }
-        if !noise.is_valid() {
-            return OpenSystemAnswer {
-                outcome: Outcome::Refused(Refusal::Malformed),
-                system: PauliLindbladOpenSystem { system, noise },
-            };
-        }
-        OpenSystemAnswer {
-            outcome: Outcome::Done,
-            system: PauliLindbladOpenSystem { system, noise },
-        }
+        Ok(PauliLindbladOpenSystem { system, noise })
     }
 }

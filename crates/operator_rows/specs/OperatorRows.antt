@@ -5,14 +5,15 @@ use Rattle.std.specs.Prelude.{true, false, not, cond, List, [], ℕ, ◌*◌, �
 use Rattle.refusal.specs.Refusals.{Said, refuses}
 use Rattle.complex.specs.declared.Complex.{Complex}
 use Rattle.letters.specs.Matrices.{Letters, pauli}
+use Rattle.letters.specs.declared.alphabet.PauliLetters.{PauliLetters}
 use Rattle.rows.specs.Floats.{floats}
 use Rattle.rows.specs.Placing.{row_in}
 use Rattle.rows.specs.Calls.{checked_row}
 use Rattle.term_sets.specs.Complexes.{held_by, valid_set, items_of}
 use Rattle.hamiltonians.specs.Reals as reals
-use Rattle.term_sets.specs.declared.Term.{Term}
-use Rattle.operators.specs.declared.pauli_operator.PauliOperator.{PauliOperator}
-use Rattle.hamiltonians.specs.declared.pauli_hamiltonian.PauliHamiltonian.{PauliHamiltonian}
+use Rattle.term_sets.specs.Complexes.{Term}
+use Rattle.operators.specs.declared.Operator.{Operator}
+use Rattle.hamiltonians.specs.declared.PauliHamiltonian.{PauliHamiltonian}
 use Rattle.hamiltonians.specs.Reals.{hamiltonian_terms}
 use Rattle.contributions.specs.TermContributions.{commutator_contributions, operator_contributions}
 
@@ -24,6 +25,9 @@ unfoldable pub commutator_row_of : ℕ → ℕ → List Term → Said (List (ℕ
 commutator_row_of n r l = checked_row n (2 ^ n * 2 ^ n) r (items_of l) (row_in floats false (commutator_contributions n r l))
 
 -- of a `PauliOperator` and of a Hamiltonian
+abbrev pub PauliOperator : Type 0
+PauliOperator = Operator PauliLetters
+
 unfoldable pub operator_row : PauliOperator → ℕ → ℕ → Said (List (ℕ × Complex))
 operator_row s n r = cond (not (valid_set true s.terms)) (refuses 0 []) (operator_row_of pauli n r (held_by s.terms))
 

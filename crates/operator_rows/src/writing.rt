@@ -12,12 +12,12 @@ ghost use Rattle.contributions.specs.TermContributions.{operator_contributions, 
 use contributions::{put, put_commutator};
 use letters::Kind;
 use row_entries::operator_entry;
-use term_sets::{TermSet, held_count};
+use term_sets::TermSet;
 
 // The contributions of an operator's terms, one of each term; how many there are.
 pub(crate) fn write_operator(
     kind: Kind,
-    s: TermSet,
+    s: &TermSet,
     spins: u32,
     row: u64,
     columns: &mut [u64; 320],
@@ -25,24 +25,22 @@ pub(crate) fn write_operator(
     im: &mut [f64; 320],
 ) -> usize
     requires { spins ≤ most_spins }
-    ensures { (result ≤ most_terms) × (Long columns.old re.old im.old → Accepted spins (2 ^ spins) row (items_of (complexes.held_by s)) → entries columns.new re.new im.new result ≡ operator_contributions (letters_of kind) spins row (complexes.held_by s)) }
+    ensures { (result ≤ most_terms) × (Long columns.old re.old im.old → Accepted spins (2 ^ spins) row (items_of (complexes.held_by s.now)) → entries columns.new re.new im.new result ≡ operator_contributions (letters_of kind) spins row (complexes.held_by s.now)) }
 {
-    let n = held_count(s.count);
-    let mut i = 0;
-    while i < n {
-        let t = s.terms[i];
-        let a = t.coefficient;
-        let e = operator_entry(kind, t.items.masks(), spins, row);
-        let value = a.product(complex::unit_of_i(e.power));
+    let terms = s.held();
+    let count = s.held_count();
+    for i in 0..count {
+        let t = &terms[i];
+        let e = operator_entry(kind, t.key.masks(), spins, row);
+        let value = t.coefficient.product(complex::unit_of_i(e.power));
         put(e.column, value, i, columns, re, im);
-        i += 1;
     }
-    n
+    count
 }
 
 // The contributions of a commutator's terms, two of each term; how many there are.
 pub(crate) fn write_commutator(
-    s: TermSet,
+    s: &TermSet,
     spins: u32,
     row: u64,
     columns: &mut [u64; 320],
@@ -50,14 +48,14 @@ pub(crate) fn write_commutator(
     im: &mut [f64; 320],
 ) -> usize
     requires { spins ≤ most_spins }
-    ensures { (result ≤ 128) × (Long columns.old re.old im.old → Accepted spins (2 ^ spins * 2 ^ spins) row (items_of (complexes.held_by s)) → entries columns.new re.new im.new result ≡ commutator_contributions spins row (complexes.held_by s)) }
+    ensures { (result ≤ 128) × (Long columns.old re.old im.old → Accepted spins (2 ^ spins * 2 ^ spins) row (items_of (complexes.held_by s.now)) → entries columns.new re.new im.new result ≡ commutator_contributions spins row (complexes.held_by s.now)) }
 {
-    let n = held_count(s.count);
-    let mut i = 0;
-    while i < n {
-        let t = s.terms[i];
+    let terms = s.held();
+    let count = s.held_count();
+    for i in 0..count {
+        let t = &terms[i];
         put_commutator(
-            t.items.masks(),
+            t.key.masks(),
             t.coefficient,
             spins,
             row,
@@ -66,7 +64,6 @@ pub(crate) fn write_commutator(
             re,
             im,
         );
-        i += 1;
     }
-    2 * n
+    2 * count
 }

@@ -1,22 +1,17 @@
--- What the answers of the kinds of operator say.
-use Rattle.std.specs.Prelude.{List}
-use Rattle.refusal.specs.Refusals.{Said, said}
-use Rattle.complex.specs.declared.Complex.{Complex}
-use Rattle.term_sets.specs.Answers.{said_set}
-use Rattle.term_sets.specs.declared.TermSet.{TermSet}
-use Rattle.operators.specs.declared.pauli_operator.PauliOperatorAfterSet.{PauliOperatorAfterSet}
-use Rattle.operators.specs.declared.pauli_operator.PauliOperatorAnswer.{PauliOperatorAnswer}
-use Rattle.operators.specs.declared.decoherence_operator.DecoherenceOperatorAfterSet.{DecoherenceOperatorAfterSet}
-use Rattle.operators.specs.declared.decoherence_operator.DecoherenceOperatorAnswer.{DecoherenceOperatorAnswer}
+-- What the answers on operators say, for any kind of letters.
+use Rattle.std.specs.Prelude.{Bool, true, false, Result}
+use Rattle.refusal.specs.Refusals.{Said, told_by}
+use Rattle.refusal.specs.declared.Refusal.{Refusal}
+use Rattle.letters.specs.declared.Kind.{Kind}
+use Rattle.letters.specs.declared.Kind.TheVariants.{Pauli, Decoherence}
+use Rattle.term_sets.specs.Complexes.{TermSet}
+use Rattle.operators.specs.declared.Operator.{Operator}
 
-abbrev pub told_pauli_set : PauliOperatorAfterSet → Said (List Complex) × TermSet
-told_pauli_set r = (said_set r.answer, r.operator.terms)
+-- "Only this makes an operator hold zeros": `PauliOperator` times a number
+abbrev pub holds_zeros : Kind → Bool
+holds_zeros Pauli = true
+holds_zeros Decoherence = false
 
-abbrev pub told_pauli : PauliOperatorAnswer → Said Unit × TermSet
-told_pauli r = (said r.outcome, r.operator.terms)
-
-abbrev pub told_decoherence_set : DecoherenceOperatorAfterSet → Said (List Complex) × TermSet
-told_decoherence_set r = (said_set r.answer, r.operator.terms)
-
-abbrev pub told_decoherence : DecoherenceOperatorAnswer → Said Unit × TermSet
-told_decoherence r = (said r.outcome, r.operator.terms)
+-- with the terms of the operator that the caller then has: the answer's, or, refused, those before
+abbrev pub told_operator : {K : Type 0} → TermSet → Result (Operator K) Refusal → Said Unit × TermSet
+told_operator before r = told_by before (λ s. s.terms) r

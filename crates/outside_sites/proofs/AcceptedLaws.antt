@@ -1,39 +1,33 @@
 -- Row calls that no number refuses: the same of a part of the products, of each term's, and what number 0 says of a valid set's products.
 -- Assumes nothing.
-use Prim.Native.Nat.{ℕ, zero, suc, ◌≤◌, ◌<◌, min}
+use Prim.Native.Nat.{ℕ, zero, suc, ◌≤◌, ◌<◌}
 use native.Mathlib.Nat.{le_of_suc-le-suc, not-suc-le-zero}
 use native.Mathlib.Omega.{arith}
 use mathlib.Core.Path.{◌≡◌, refl, sym, ◌∙◌, subst}
 use mathlib.Core.Bool.{Bool, true, not, ◌&&◌}
 use mathlib.Core.List.{List, [], ◌∷◌, ◌++◌}
-use lib.ListN.{length, take, get_or, length-take}
-use lib.Seq.{get_or-take}
+use lib.ListN.{length, get_or}
 use Rattle.letters.proofs.TestLaws.{and_left, and_right}
 use Rattle.items.specs.Record.{valid}
 use Rattle.row_entries.specs.Answers.{most_spins}
 use Rattle.items.specs.declared.Items.{Items}
 use Rattle.terms.specs.Keyed.{each, concat_map}
-use Rattle.terms.specs.Setting.{most_terms}
 use Rattle.terms.proofs.KeyedLaws.{each_cons, each_head, each_tail, concat_map_cons}
 use Rattle.terms.proofs.EachLaws.{each_results}
 use Rattle.rows.specs.Calls.{outside}
 use Rattle.row_entries.proofs.EntryLaws.{Within}
 use Rattle.hamiltonians.specs.Reals as reals
-use Rattle.term_sets.specs.Complexes as complexes
-use Rattle.term_sets.specs.declared.Term.{Term}
-use Rattle.term_sets.specs.declared.TermSet.{TermSet}
-use Rattle.hamiltonians.specs.declared.pauli_hamiltonian.PauliHamiltonian.{PauliHamiltonian}
-use Rattle.term_sets.proofs.ValidLaws as set-laws
+use Rattle.hamiltonians.specs.Reals.{hamiltonian_terms}
+use Rattle.hamiltonians.specs.declared.PauliHamiltonian.{PauliHamiltonian}
 use Rattle.hamiltonians.proofs.RealValidLaws as real-laws
+use Rattle.term_sets.specs.Complexes as complexes
+use Rattle.term_sets.specs.Complexes.{Term, TermSet, items_of}
+use Rattle.term_sets.proofs.ValidLaws as set-laws
 use Rattle.noise_sets.specs.Pairs as pairs
+use Rattle.noise_sets.specs.Pairs.{NoiseTerm, NoiseSet, sides}
 use Rattle.noise_sets.specs.Answers.{valid_key}
-use Rattle.noise_sets.specs.declared.NoiseTerm.{NoiseTerm}
-use Rattle.noise_sets.specs.declared.NoiseSet.{NoiseSet}
 use Rattle.noise_sets.proofs.ValidLaws as pair-laws
 use Rattle.outside_sites.specs.Accepted.{Accepted}
-use Rattle.term_sets.specs.Complexes.{items_of}
-use Rattle.hamiltonians.specs.Reals.{hamiltonian_terms}
-use Rattle.noise_sets.specs.Pairs.{sides}
 use Rattle.outside_sites.proofs.OutsideLaws.{outside_none, first_inside, reach-below, rest-inside, product, products_are}
 
 abbrev pub AllValid : List Items → Type 0
@@ -81,21 +75,12 @@ module _ {n rows r : ℕ} where
   accepted_at g (x ∷ l) zero d h k = accepted_left (g x) (concat_map g l) (subst (Accepted n rows r) (concat_map_cons g x l) k)
   accepted_at g (x ∷ l) (suc i) d h k = accepted_at g l i d (le_of_suc-le-suc h) (accepted_right (g x) (concat_map g l) (subst (Accepted n rows r) (concat_map_cons g x l) k))
 
-  -- the same of a set with the places t, which the code reads
-  pub accepted_place : {A : Type 0} (g : A → List Items) (t : List A) (count : ℕ) {m i : ℕ} (d : A) → length t ≡ most_terms → m ≡ min count most_terms → i < m
-      → Accepted n rows r (concat_map g (take count t)) → Accepted n rows r (g (get_or t i d))
-  accepted_place {A} g t count {m} {i} d whole few h k =
-      let long = length-take count t in
-      subst (λ (x : A). Accepted n rows r (g x)) (get_or-take count t i d (omega arith)) (accepted_at g (take count t) i d (omega arith) k)
+  pub product_accepted : (l : List Term) (i : ℕ) (d : Term) → i < length l → Accepted n rows r (items_of l) → Accepted n rows r ((get_or l i d).key ∷ [])
+  product_accepted l i d h k = accepted_at product l i d h (subst (Accepted n rows r) (sym (products_are l)) k)
 
-  pub product_accepted : (t : List Term) (count : ℕ) {m i : ℕ} (d : Term) → length t ≡ most_terms → m ≡ min count most_terms → i < m
-      → Accepted n rows r (items_of (take count t)) → Accepted n rows r ((get_or t i d).items ∷ [])
-  product_accepted t count d whole few h k = accepted_place product t count d whole few h (subst (Accepted n rows r) (sym (products_are (take count t))) k)
-
-  pub sides_accepted : (t : List NoiseTerm) (count : ℕ) {m i : ℕ} (d : NoiseTerm) → length t ≡ most_terms → m ≡ min count most_terms → i < m
-      → Accepted n rows r (pairs.sides_of (take count t)) → Accepted n rows r (sides (get_or t i d))
+  pub sides_accepted : (l : List NoiseTerm) (i : ℕ) (d : NoiseTerm) → i < length l → Accepted n rows r (pairs.sides_of l) → Accepted n rows r (sides (get_or l i d))
   unfolding pairs.sides_of
-  sides_accepted t count d whole few h k = accepted_place sides t count d whole few h k
+  sides_accepted l i d h k = accepted_at sides l i d h k
 
 -- ---- the products of valid sets
 
@@ -104,23 +89,23 @@ all_both [] b e f = f
 all_both (p ∷ a) b e f = each_cons (λ p qs. valid p) p (a ++ b) (each_head (λ p qs. valid p) p a e) (all_both a b (each_tail (λ p qs. valid p) p a e) f)
 
 pub operator_valid : (zeros : Bool) (s : TermSet) → complexes.valid_set zeros s ≡ true → AllValid (items_of (complexes.held_by s))
-operator_valid zeros s e = each_results (λ (t : Term) ts. valid t.items) (λ p ps. valid p) (λ t. t.items) (λ t ts h. h) (complexes.held_by s) (set-laws.valid-products zeros s e)
+operator_valid zeros s e = each_results (λ (t : Term) ts. valid t.key) (λ p ps. valid p) (λ t. t.key) (λ t ts h. h) (complexes.held_by s) (set-laws.valid-products zeros s e)
 
 pub hamiltonian-valid : (h : PauliHamiltonian) → reals.valid_set h ≡ true → AllValid (items_of (hamiltonian_terms h))
 hamiltonian-valid h e =
-    each_results (λ (t : Term) ts. valid t.items) (λ p ps. valid p) (λ t. t.items) (λ t ts h. h) (hamiltonian_terms h)
-    (each_results (λ t ts. valid t.items) (λ (t : Term) ts. valid t.items) reals.complex_term (λ t ts h. h) (reals.held_by h) (real-laws.valid-products h e))
+    each_results (λ (t : Term) ts. valid t.key) (λ p ps. valid p) (λ t. t.key) (λ t ts h. h) (hamiltonian_terms h)
+    (each_results (λ t ts. valid t.key) (λ (t : Term) ts. valid t.key) reals.complex_term (λ t ts h. h) (reals.held_by h) (real-laws.valid-products h e))
 
 -- both sides of noise terms with good keys
-sides-valid : (l : List NoiseTerm) → each (λ t ts. pairs.good_key (pair-laws.key_of t)) l ≡ true → AllValid (concat_map sides l)
+sides-valid : (l : List NoiseTerm) → each (λ t ts. pairs.good_key t.key) l ≡ true → AllValid (concat_map sides l)
 unfolding each concat_map
 sides-valid [] e = refl
 sides-valid (t ∷ l) e =
-    let key = each_head (λ t ts. pairs.good_key (pair-laws.key_of t)) t l e in
-    let both = and_left (valid_key (pair-laws.key_of t)) (not (pairs.is_empty t.left) && not (pairs.is_empty t.right)) key in
-    each_cons (λ p qs. valid p) t.left (t.right ∷ concat_map sides l) (and_left (valid t.left) (valid t.right) both)
-    (each_cons (λ p qs. valid p) t.right (concat_map sides l) (and_right (valid t.left) (valid t.right) both)
-    (sides-valid l (each_tail (λ t ts. pairs.good_key (pair-laws.key_of t)) t l e)))
+    let key = each_head (λ t ts. pairs.good_key t.key) t l e in
+    let both = and_left (valid_key t.key) (not (pairs.is_empty t.key.0) && not (pairs.is_empty t.key.1)) key in
+    each_cons (λ p qs. valid p) t.key.0 (t.key.1 ∷ concat_map sides l) (and_left (valid t.key.0) (valid t.key.1) both)
+    (each_cons (λ p qs. valid p) t.key.1 (concat_map sides l) (and_right (valid t.key.0) (valid t.key.1) both)
+    (sides-valid l (each_tail (λ t ts. pairs.good_key t.key) t l e)))
 
 pub noise-valid : (s : NoiseSet) → pairs.valid_set s ≡ true → AllValid (pairs.sides_of (pairs.held_by s))
 unfolding pairs.sides_of

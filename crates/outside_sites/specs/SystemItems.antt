@@ -1,8 +1,8 @@
 -- The products of an open system's terms, in the order in which 8 looks at them. Document 01: for 8 the Hamiltonian before the noise.
 use Rattle.std.specs.Prelude.{List, ◌++◌}
 use Rattle.items.specs.declared.Items.{Items}
-use Rattle.term_sets.specs.declared.Term.{Term}
-use Rattle.noise_sets.specs.declared.NoiseTerm.{NoiseTerm}
+use Rattle.term_sets.specs.Complexes.{Term}
+use Rattle.noise_sets.specs.Pairs.{NoiseTerm}
 use Rattle.term_sets.specs.Complexes as operators
 use Rattle.noise_sets.specs.Pairs as noise
 

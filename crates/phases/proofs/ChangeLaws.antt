@@ -1,10 +1,11 @@
 -- Conjugation and conversion keep the letters of a product, and the powers of i add up place by place.
 -- Assumes nothing.
-use Rattle.std.proofs.Common.{◌≡◌, true, ℕ, suc, ◌+◌, ◌%◌, ◌≤◌, ◌<◌, Result, Ok, Err, refl, sym, ap, ap₂, ◌∙◌, arith}
+use Rattle.std.proofs.Common.{◌≡◌, true, ℕ, suc, ◌+◌, ◌%◌, ◌≤◌, ◌<◌, Result, Ok, refl, sym, ap, ap₂, ◌∙◌, arith}
 use Rattle.std.specs.Result.{IsOk}
 use borrow.Author.Tests.{le-ltb}
-use Rattle.refusal.specs.Refusals.{Said, gives, done, said_by}
+use Rattle.refusal.specs.Refusals.{gives, done}
 use Rattle.refusal.specs.declared.Refusal.{Refusal}
+use Rattle.refusal.proofs.RefusalLaws.{said_ok, said_value}
 use Rattle.letters.specs.Sums.{total}
 use Rattle.letters.specs.Matrices.{letters_of}
 use Rattle.letters.specs.Single.{letter_of, power_of, conjugated, converted}
@@ -51,14 +52,6 @@ power_lt k l h = omega (arith, k.code l h)
 
 -- ---- the answer on one letter
 
--- a result that gives a value is one, and its value reads so
-said_ok : {V A : Type 0} (show : V → A) (x : Result V Refusal) (a : A) → said_by show x ≡ gives a → IsOk x
-said_ok show (Ok y) a e = refl
-said_ok show (Err why) a e = cc
-
-said_value : {V A : Type 0} (show : V → A) (x : Result V Refusal) (y : V) (a : A) → x ≡ Ok y → said_by show x ≡ gives a → show y ≡ a
-said_value show x y a q e = let f : gives (show y) ≡ gives a = sym (ap (said_by show) q) ∙ e in cc
-
 -- a letter below 4 is not refused, and its power is that of the change
 module _ (kind : Kind) (l : ℕ) (h : l < 4) (x : Result Scaled Refusal) where
   conjugate_said : said_letter x ≡ conjugate_letter (letters_of kind) l → said_letter x ≡ decoded (conjugated (letters_of kind) l)
@@ -103,10 +96,6 @@ pub record Powers (power : ℕ → ℕ) (p : Items) (i sum : ℕ) : Type 0 where
 pub powers_none : (power : ℕ → ℕ) (p : Items) → Powers power p 0 0
 unfolding total
 powers_none power p = record { bound = 0; cursor = cursor_none p; added = refl }
-
--- the sum stays below 4
-pub powers_lt : {power : ℕ → ℕ} {p : Items} {i sum : ℕ} → Powers power p i sum → sum < 4
-powers_lt h = omega (arith, h.added)
 
 module _ (power : ℕ → ℕ) (p : Items) (v : valid p ≡ true) (none : power 0 ≡ 0) where
   -- a free site gives none

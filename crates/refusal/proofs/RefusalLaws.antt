@@ -5,11 +5,10 @@ use mathlib.Core.List.{List, [], ◌∷◌}
 use mathlib.Core.Path.{◌≡◌, refl, sym, ap, ap₂, ◌∙◌}
 use lib.ListN.{get_or}
 use Rattle.std.specs.Prelude.{Some, None, Result, Ok, Err}
-use Rattle.refusal.specs.Refusals.{number, site_of, listed, Said, gives, refuses, said, said_by, told_by}
+use Rattle.std.specs.Result.{IsOk}
+use Rattle.refusal.specs.Refusals.{number, site_of, listed, gives, said_by, told_by}
 use Rattle.refusal.specs.declared.Refusal.{Refusal}
 use Rattle.refusal.specs.declared.Refusal.TheVariants.{Malformed, SiteTooHigh, UnknownLetter, SiteOccupied, EmptySide, CoefficientOutOfRange, SetFull, TooManySpins, SiteOutsideSpins, RowOutOfRange, BufferTooShort, NotWhole}
-use Rattle.refusal.specs.declared.Outcome.{Outcome}
-use Rattle.refusal.specs.declared.Outcome.TheVariants.{Done, Refused}
 
 -- the refusal with a number and a site
 pub refusal_of : ℕ → List ℕ → Refusal
@@ -35,25 +34,8 @@ refusal_is RowOutOfRange = refl
 refusal_is BufferTooShort = refl
 refusal_is NotWhole = refl
 
--- the answer that gives a value or holds a refusal
-abbrev pub answer_of : {A E : Type 0} → (A → E) → (Refusal → E) → Said A → E
-answer_of given refused (gives x) = given x
-answer_of given refused (refuses k l) = refused (refusal_of k l)
-
--- answers that come back from what they say are equal where they say the same
-pub reading_known : {A E : Type 0} (reading : E → Said A) (given : A → E) (refused : Refusal → E) → ((x : E) → answer_of given refused (reading x) ≡ x)
-    → (x y : E) → reading x ≡ reading y → x ≡ y
-reading_known reading given refused back x y e = sym (back x) ∙ ap (answer_of given refused) e ∙ back y
-
 pub refusal_known : (why why' : Refusal) → number why ≡ number why' → site_of why ≡ site_of why' → why ≡ why'
 refusal_known why why' e h = sym (refusal_is why) ∙ ap₂ refusal_of e h ∙ refusal_is why'
-
-pub outcome_known : (o o' : Outcome) → said o ≡ said o' → o ≡ o'
-outcome_known = reading_known said (λ x. Done) Refused back
-  where
-    back : (o : Outcome) → answer_of (λ x. Done) Refused (said o) ≡ o
-    back Done = refl
-    back (Refused why) = ap Refused (refusal_is why)
 
 -- a reading is one to one: what it says of a value fixes the value
 abbrev pub OneToOne : {V A : Type 0} → (V → A) → Type 0
@@ -82,3 +64,14 @@ told_by_known before show known r q e = go r q (ap (λ t. t.0) e) (ap (λ t. t.1
     go (Err why) (Err why') s e = ap Err (refusal_known why why' (cc) (cc))
     go (Ok v) (Err why) s e = cc
     go (Err why) (Ok v) s e = cc
+
+-- ---- a result that says a value
+
+-- it is one
+pub said_ok : {V A : Type 0} (show : V → A) (x : Result V Refusal) (a : A) → said_by show x ≡ gives a → IsOk x
+said_ok show (Ok y) a e = refl
+said_ok show (Err why) a e = cc
+
+-- and its value reads so
+pub said_value : {V A : Type 0} (show : V → A) (x : Result V Refusal) (y : V) (a : A) → x ≡ Ok y → said_by show x ≡ gives a → show y ≡ a
+said_value show x y a q e = let f : gives (show y) ≡ gives a = sym (ap (said_by show) q) ∙ e in cc

@@ -3,8 +3,6 @@
 use Rattle.std.specs.Prelude.{ℕ, List, [], ◌∷◌, Option, Some, None, Result, Ok, Err}
 use Rattle.refusal.specs.declared.Refusal.{Refusal}
 use Rattle.refusal.specs.declared.Refusal.TheVariants.{Malformed, SiteTooHigh, UnknownLetter, SiteOccupied, EmptySide, CoefficientOutOfRange, SetFull, TooManySpins, SiteOutsideSpins, RowOutOfRange, BufferTooShort, NotWhole}
-use Rattle.refusal.specs.declared.Outcome.{Outcome}
-use Rattle.refusal.specs.declared.Outcome.TheVariants.{Done, Refused}
 
 -- the number of a refusal
 abbrev pub number : Refusal → ℕ
@@ -46,13 +44,9 @@ pub data Said (A : Type 0) : Type 0 where
   gives : A → Said A
   refuses : ℕ → List ℕ → Said A
 
--- what an outcome says, which has no value of its own
+-- what an answer says that has no value of its own
 abbrev pub done : Said Unit
 done = gives tt
-
-abbrev pub said : Outcome → Said Unit
-said Done = done
-said (Refused why) = refuses (number why) (site_of why)
 
 -- what a result says: its value, read by `show`, or its refusal by number and site
 abbrev pub said_by : {V A : Type 0} → (V → A) → Result V Refusal → Said A
@@ -63,3 +57,7 @@ said_by show (Err why) = refuses (number why) (site_of why)
 abbrev pub told_by : {V A : Type 0} → A → (V → A) → Result V Refusal → Said Unit × A
 told_by before show (Ok v) = (done, show v)
 told_by before show (Err why) = (refuses (number why) (site_of why), before)
+
+-- what a result without a value says
+abbrev pub said_done : Result Unit Refusal → Said Unit
+said_done r = said_by (λ u. tt) r

@@ -36,13 +36,6 @@ pub enum Refusal {
     NotWhole,
 }
 
-// What an entry answers that hands a record back beside it.
-#[derive(Clone, Copy)]
-pub enum Outcome {
-    Done,
-    Refused(Refusal),
-}
-
 impl Refusal {
     pub fn number(self) -> u32
         ensures { result ≡ number self }

@@ -1,53 +1,49 @@
 // Sets multiplied, conjugated, converted and scaled: a set, then a second one or a coefficient.
-use crate::answers::{Made, Operator, Terms};
+use crate::entries::Terms;
 use crate::numbers::Numbers;
-use crate::report::{handed_back, made};
-use crate::set_records::hamiltonian;
-use spins::{DecoherenceOperator, PauliHamiltonian, PauliOperator};
+use crate::report::{EMPTY, called, told};
+use spins::{
+    Alphabet, DecoherenceLetters, DecoherenceOperator, Operator, PauliHamiltonian, PauliLetters,
+    PauliOperator, operator_of,
+};
 use std::io;
 
-fn multiply<S: Operator>(rt: &impl Print, numbers: &mut Numbers) -> io::Result<()> {
-    let left = S::of(numbers.set());
-    let right = S::of(numbers.set());
-    handed_back(rt, &left, left.multiply(&right))
+fn multiply<K: Alphabet>(rt: &impl Print, numbers: &mut Numbers) -> io::Result<()> {
+    let left: Operator<K> = operator_of(numbers.set());
+    let right = operator_of(numbers.set());
+    called(rt, left, |left| left.multiply(&right))
 }
 
 fn hermitian_conjugate<S: Terms>(rt: &impl Print, numbers: &mut Numbers) -> io::Result<()> {
-    let s = S::of(numbers.set());
-    handed_back(rt, &s, s.hermitian_conjugate())
+    called(rt, S::of(numbers.set()), |s| s.hermitian_conjugate())
 }
 
 fn from_hamiltonians(rt: &impl Print, numbers: &mut Numbers) -> io::Result<()> {
-    let left = hamiltonian(numbers.set());
-    let right = hamiltonian(numbers.set());
-    let r = PauliOperator::from_hamiltonians(left, right);
-    made(rt, &PauliOperator::new(), Made::new(r.outcome, r.operator))
+    let left = PauliHamiltonian::of(numbers.set());
+    let right = PauliHamiltonian::of(numbers.set());
+    told(rt, PauliOperator::from_hamiltonians(&left, &right), EMPTY)
 }
 
 fn from_hamiltonian(rt: &impl Print, numbers: &mut Numbers) -> io::Result<()> {
-    let r = PauliOperator::from_hamiltonian(hamiltonian(numbers.set()));
-    made(rt, &PauliOperator::new(), Made::new(r.outcome, r.operator))
+    let h = PauliHamiltonian::of(numbers.set());
+    told(rt, PauliOperator::from_hamiltonian(&h), EMPTY)
 }
 
 fn from_pauli_operator(rt: &impl Print, numbers: &mut Numbers) -> io::Result<()> {
-    let r = DecoherenceOperator::from_pauli_operator(PauliOperator::of(numbers.set()));
-    made(
-        rt,
-        &DecoherenceOperator::new(),
-        Made::new(r.outcome, r.operator),
-    )
+    let s = operator_of(numbers.set());
+    told(rt, DecoherenceOperator::from_pauli_operator(&s), EMPTY)
 }
 
 fn scale(rt: &impl Print, numbers: &mut Numbers) -> io::Result<()> {
-    let s = PauliOperator::of(numbers.set());
-    let r = s.scale(numbers.coefficient());
-    handed_back(rt, &s, Made::new(r.outcome, r.operator))
+    let s: PauliOperator = operator_of(numbers.set());
+    let value = numbers.coefficient();
+    called(rt, s, |s| s.scale(value))
 }
 
 pub(crate) fn call(rt: &impl Print, entry: u64, numbers: &mut Numbers) -> io::Result<()> {
     match entry {
-        30 => multiply::<PauliOperator>(rt, numbers),
-        31 => multiply::<DecoherenceOperator>(rt, numbers),
+        30 => multiply::<PauliLetters>(rt, numbers),
+        31 => multiply::<DecoherenceLetters>(rt, numbers),
         32 => from_hamiltonians(rt, numbers),
         33 => hermitian_conjugate::<PauliOperator>(rt, numbers),
         34 => hermitian_conjugate::<DecoherenceOperator>(rt, numbers),

@@ -1,8 +1,8 @@
 // Runs the table of standard input: a case on each line, called and printed with its number. tests/refusals makes the table.
 #![tactic(auto)]
 
-mod answers;
 mod chain_calls;
+mod entries;
 mod noise_calls;
 mod numbers;
 mod product_calls;

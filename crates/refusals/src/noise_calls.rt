@@ -1,10 +1,9 @@
 // The entries on noise: two sets whose products make the pairs, then what else the entry takes.
-use crate::answers::{Made, Sides, Terms};
+use crate::entries::Terms;
 use crate::numbers::Numbers;
-use crate::report::handed_back;
+use crate::report::called;
 use crate::set_calls::call_with;
-use crate::set_records::hamiltonian;
-use spins::{DecoherenceOperator, PauliLindbladNoiseOperator, PauliLindbladOpenSystem};
+use spins::{PauliHamiltonian, PauliLindbladNoiseOperator, PauliLindbladOpenSystem, operator_of};
 use std::io;
 
 fn add_full(
@@ -12,10 +11,12 @@ fn add_full(
     noise: PauliLindbladNoiseOperator,
     numbers: &mut Numbers,
 ) -> io::Result<()> {
-    let left = DecoherenceOperator::of(numbers.set());
-    let right = DecoherenceOperator::of(numbers.set());
-    let r = noise.add_noise_from_full_operators(left, right, numbers.coefficient());
-    handed_back(rt, &noise, Made::new(r.outcome, r.operator))
+    let left = operator_of(numbers.set());
+    let right = operator_of(numbers.set());
+    let value = numbers.coefficient();
+    called(rt, noise, |noise| {
+        noise.add_noise_from_full_operators(&left, &right, value)
+    })
 }
 
 fn remap_qubits(
@@ -23,8 +24,8 @@ fn remap_qubits(
     noise: PauliLindbladNoiseOperator,
     numbers: &mut Numbers,
 ) -> io::Result<()> {
-    let r = noise.remap_qubits(numbers.targets());
-    handed_back(rt, &noise, Made::new(r.outcome, r.operator))
+    let targets = numbers.targets();
+    called(rt, noise, |noise| noise.remap_qubits(targets))
 }
 
 fn group(
@@ -32,10 +33,11 @@ fn group(
     noise: PauliLindbladNoiseOperator,
     numbers: &mut Numbers,
 ) -> io::Result<()> {
-    let system = hamiltonian(numbers.set());
-    let r = PauliLindbladOpenSystem::group(system, noise);
+    let system = PauliHamiltonian::of(numbers.set());
     let parts = PauliLindbladOpenSystem { system, noise };
-    handed_back(rt, &parts, Made::new(r.outcome, r.system))
+    called(rt, parts, |parts| {
+        PauliLindbladOpenSystem::group(parts.system, parts.noise)
+    })
 }
 
 pub(crate) fn call(rt: &impl Print, entry: u64, numbers: &mut Numbers) -> io::Result<()> {
@@ -47,10 +49,9 @@ pub(crate) fn call(rt: &impl Print, entry: u64, numbers: &mut Numbers) -> io::Re
         44 => remap_qubits(rt, noise, numbers),
         45 => group(rt, noise, numbers),
         _ => {
-            let left = numbers.product();
-            let right = numbers.product();
+            let key = (numbers.product(), numbers.product());
             let value = numbers.coefficient();
-            call_with(rt, entry % 10, noise, Sides { left, right }, value)
+            call_with(rt, entry % 10, noise, key, value)
         }
     }
 }

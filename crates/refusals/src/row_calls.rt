@@ -1,19 +1,18 @@
 // The row entries: a set, two sets whose products make the pairs of noise, the spins, the row and the places of the three buffers.
-use crate::answers::{Terms, counted};
+use crate::entries::Terms;
 use crate::numbers::Numbers;
-use crate::set_records::hamiltonian;
 use observations::buffers::{Buffers, Lent, Room};
 use spins::{
-    Delivery, PauliLindbladNoiseOperator, PauliLindbladOpenSystem, PauliOperator, Refusal, TermSet,
+    PauliHamiltonian, PauliLindbladNoiseOperator, PauliLindbladOpenSystem, PauliOperator, Refusal,
     commutator_row, exact_row, hamiltonian_commutator_row, hamiltonian_row, noise_row, open_row,
-    operator_row,
+    operator_of, operator_row,
 };
 use std::io;
 
-// Whose row is asked for: an operator's terms, the system that has them as its Hamiltonian, and which row over how many spins.
+// Whose row is asked for: an operator, the system that has its terms as its Hamiltonian, and which row over how many spins.
 #[derive(Clone, Copy)]
 struct Asked {
-    terms: TermSet,
+    operator: PauliOperator,
     system: PauliLindbladOpenSystem,
     spins: u32,
     row: u64,
@@ -23,13 +22,13 @@ impl Numbers<'_> {
     fn asked(&mut self) -> Asked {
         let terms = self.set();
         let system = PauliLindbladOpenSystem {
-            system: hamiltonian(terms),
+            system: PauliHamiltonian::of(terms),
             noise: PauliLindbladNoiseOperator { set: self.pairs() },
         };
         let spins = self.narrow();
         let row = self.number();
         Asked {
-            terms,
+            operator: operator_of(terms),
             system,
             spins,
             row,
@@ -45,31 +44,34 @@ impl Numbers<'_> {
 }
 
 // A row in f64.
-fn float_row(entry: u64, a: Asked, room: Room, lent: &mut Buffers<f64>) -> Delivery {
-    let operator = PauliOperator::of(a.terms);
+fn float_row(entry: u64, a: &Asked, room: Room, lent: &mut Buffers<f64>) -> Result<usize, Refusal> {
+    let (h, noise) = (&a.system.system, &a.system.noise);
     let (columns, re, im) = lent.lend(room);
     match entry {
-        50 => operator_row(operator, a.spins, a.row, columns, re, im),
-        51 => commutator_row(operator, a.spins, a.row, columns, re, im),
-        52 => hamiltonian_row(a.system.system, a.spins, a.row, columns, re, im),
-        53 => hamiltonian_commutator_row(a.system.system, a.spins, a.row, columns, re, im),
-        54 => noise_row(a.system.noise, a.spins, a.row, columns, re, im),
-        _ => open_row(a.system, a.spins, a.row, columns, re, im),
+        50 => operator_row(&a.operator, a.spins, a.row, columns, re, im),
+        51 => commutator_row(&a.operator, a.spins, a.row, columns, re, im),
+        52 => hamiltonian_row(h, a.spins, a.row, columns, re, im),
+        53 => hamiltonian_commutator_row(h, a.spins, a.row, columns, re, im),
+        54 => noise_row(noise, a.spins, a.row, columns, re, im),
+        _ => open_row(&a.system, a.spins, a.row, columns, re, im),
     }
 }
 
 // A row in halves.
-fn halves_row(a: Asked, room: Room, lent: &mut Buffers<i64>) -> Delivery {
+fn halves_row(a: &Asked, room: Room, lent: &mut Buffers<i64>) -> Result<usize, Refusal> {
     let (columns, re, im) = lent.lend(room);
-    exact_row(a.system, a.spins, a.row, columns, re, im)
+    exact_row(&a.system, a.spins, a.row, columns, re, im)
 }
 
-// The count or the number, and whether the rest of the buffers is as before.
-fn delivered<T: Lent>(
-    rt: &impl Print,
-    answer: Result<usize, Refusal>,
-    lent: &Buffers<T>,
-) -> io::Result<()> {
+// The count or the number that a call answers, and whether the rest of the buffers is as before.
+fn delivered<T: Lent, F: FnOnce(&mut Buffers<T>) -> Result<usize, Refusal>>(
+    rt: &(impl Print + AllocGlobal),
+    call: F,
+) -> io::Result<()>
+    requires { F.IsAlwaysCallable call }
+{
+    let mut lent = Buffers::new(rt.alloc())?;
+    let answer = call(&mut lent);
     let n = answer.unwrap_or(0);
     let after = if lent.kept(n) { "as before" } else { "changed" };
     match answer {
@@ -86,12 +88,8 @@ pub(crate) fn call(
     let asked = numbers.asked();
     let room = numbers.room();
     if entry == 56 {
-        let mut lent = Buffers::new(rt.alloc())?;
-        let answer = counted(halves_row(asked, room, &mut lent));
-        delivered(rt, answer, &lent)
+        delivered(rt, |lent| halves_row(&asked, room, lent))
     } else {
-        let mut lent = Buffers::new(rt.alloc())?;
-        let answer = counted(float_row(entry, asked, room, &mut lent));
-        delivered(rt, answer, &lent)
+        delivered(rt, |lent| float_row(entry, &asked, room, lent))
     }
 }

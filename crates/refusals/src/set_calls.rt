@@ -1,24 +1,23 @@
 // `get`, `set` and `add_operator_product` of sets, by the last digit of an entry: 0, 1 and 2. An entry from 20 on has a kind, a set, a
 // product and a coefficient.
-use crate::answers::{Keyed, Terms};
+use crate::entries::{Keyed, Terms};
 use crate::numbers::Numbers;
-use crate::report::{kept, told};
+use crate::report::{called, told};
 use spins::{Complex, DecoherenceOperator, PauliHamiltonian, PauliOperator};
 use std::io;
 
 // The entry with this last digit, on a set with a key and a coefficient.
-pub(crate) fn call_with<Key, S: Keyed<Key>>(
+pub(crate) fn call_with<Key: Copy, S: Keyed<Key>>(
     rt: &impl Print,
     digit: u64,
     s: S,
     key: Key,
     value: Complex,
 ) -> io::Result<()> {
-    let mut after = s;
     match digit {
         0 => told(rt, s.get(key), ""),
-        1 => kept(rt, after.set(key, value), &s, &after),
-        _ => kept(rt, after.add_operator_product(key, value), &s, &after),
+        1 => called(rt, s, |s| s.set(key, value)),
+        _ => called(rt, s, |s| s.add_operator_product(key, value)),
     }
 }
 

@@ -1,9 +1,6 @@
 // Sets and pairs of a case, from its numbers; well-formed or not.
 use crate::numbers::{Numbers, Placed, coefficient, two_items};
-use spins::{
-    Complex, Items, MOST_TERMS, NoiseSet, NoiseTerm, PauliHamiltonian, PauliOperator, RealTerm,
-    Term, TermSet,
-};
+use spins::{Complex, Items, MOST_TERMS, NoiseSet, Set, Term, TermSet};
 use std::array;
 
 const X0: Placed = Placed { site: 0, letter: 1 };
@@ -18,13 +15,13 @@ fn one_item(letter: Placed) -> Items {
 
 // The first n of 64 different keys: X on the sites 0 to 30, then Y, then Z.
 fn filled(n: usize, coefficient: Complex) -> TermSet {
-    let mut s = PauliOperator::new().terms;
+    let mut s = Set::new();
     for i in 0..n.min(MOST_TERMS) {
-        let items = one_item(Placed {
+        let key = one_item(Placed {
             site: (i % 31) as u8,
             letter: (1 + i / 31) as u8,
         });
-        s.terms[i] = Term { items, coefficient };
+        s.terms[i] = Term { key, coefficient };
     }
     s
 }
@@ -33,14 +30,14 @@ fn filled(n: usize, coefficient: Complex) -> TermSet {
 fn cancelling(n: usize) -> TermSet {
     let one = coefficient(1);
     let minus_one = coefficient(2);
-    let mut s = PauliOperator::new().terms;
+    let mut s = Set::new();
     for i in 0..2 {
         let z = Placed {
             site: i as u8 + 1,
             letter: 3,
         };
         s.terms[i] = Term {
-            items: one_item(z),
+            key: one_item(z),
             coefficient: one,
         };
     }
@@ -52,11 +49,11 @@ fn cancelling(n: usize) -> TermSet {
                 letter: (1 + i / 30) as u8,
             };
             s.terms[at] = Term {
-                items: one_item(key),
+                key: one_item(key),
                 coefficient: one,
             };
             s.terms[at + 1] = Term {
-                items: two_items(2, X0, 1, key),
+                key: two_items(2, X0, 1, key),
                 coefficient: minus_one,
             };
         }
@@ -76,10 +73,10 @@ impl Numbers<'_> {
             cancelling(n - 100)
         };
         let at = self.count();
-        let items = self.product();
+        let key = self.product();
         let coefficient = self.coefficient();
         if at < MOST_TERMS {
-            s.terms[at] = Term { items, coefficient };
+            s.terms[at] = Term { key, coefficient };
         }
         s.count = self.count();
         s
@@ -89,24 +86,12 @@ impl Numbers<'_> {
     pub(crate) fn pairs(&mut self) -> NoiseSet {
         let left = self.set();
         let right = self.set();
-        NoiseSet {
+        Set {
             count: left.count,
-            terms: array::from_fn(|i| NoiseTerm {
-                left: left.terms[i].items,
-                right: right.terms[i].items,
+            terms: array::from_fn(|i| Term {
+                key: (left.terms[i].key, right.terms[i].key),
                 coefficient: left.terms[i].coefficient,
             }),
         }
-    }
-}
-
-// The same set with real coefficients.
-pub(crate) fn hamiltonian(s: TermSet) -> PauliHamiltonian {
-    PauliHamiltonian {
-        count: s.count,
-        terms: s.terms.map(|t| RealTerm {
-            items: t.items,
-            coefficient: t.coefficient.re,
-        }),
     }
 }

@@ -13,14 +13,14 @@ use systems::{at_site, full, noise_at_site, worked};
 fn few_spins(rt: &(impl Print + AllocGlobal)) -> Result<(), Failure> {
     let four = Room::each(4);
     let none = PauliLindbladOpenSystem::new();
-    lent(rt, "no spins, row 0", none, 0, 0, four)?;
-    lent(rt, "no spins, row 1", none, 0, 1, four)?;
-    lent(rt, "32 spins", none, 32, 0, four)?;
+    lent(rt, "no spins, row 0", &none, 0, 0, four)?;
+    lent(rt, "no spins, row 1", &none, 0, 1, four)?;
+    lent(rt, "32 spins", &none, 32, 0, four)?;
     let worked = worked()?;
     for row in [0, 1, 4] {
-        lent(rt, format_args!("worked, row {row}"), worked, 1, row, four)?;
+        lent(rt, format_args!("worked, row {row}"), &worked, 1, row, four)?;
     }
-    lent(rt, "worked, row 0, one place", worked, 1, 0, Room::each(1))?;
+    lent(rt, "worked, row 0, one place", &worked, 1, 0, Room::each(1))?;
     Ok(())
 }
 
@@ -29,11 +29,11 @@ fn sites(rt: &(impl Print + AllocGlobal)) -> Result<(), Failure> {
     let four = Room::each(4);
     for (site, spins) in [(3, 3), (3, 4), (30, 30), (30, 31)] {
         let name = format_args!("site {site} of {spins} spins");
-        lent(rt, name, at_site(site)?, spins, 0, four)?;
+        lent(rt, name, &at_site(site)?, spins, 0, four)?;
     }
     for spins in [3, 4] {
         let name = format_args!("noise on site 3 of {spins} spins");
-        lent(rt, name, noise_at_site(3)?, spins, 0, four)?;
+        lent(rt, name, &noise_at_site(3)?, spins, 0, four)?;
     }
     Ok(())
 }
@@ -41,7 +41,7 @@ fn sites(rt: &(impl Print + AllocGlobal)) -> Result<(), Failure> {
 // A full system in one row: with places to spare, with as many as entries, and with one less in some buffer.
 fn full_row(
     rt: &(impl Print + AllocGlobal),
-    s: PauliLindbladOpenSystem,
+    s: &PauliLindbladOpenSystem,
     row: u64,
 ) -> Result<(), Failure> {
     let name = format_args!("full, row {row}, all places");
@@ -90,17 +90,17 @@ fn main(rt: HostRuntime) -> Result<(), Failure> {
     few_spins(&rt)?;
     sites(&rt)?;
     let full = full()?;
-    full_row(&rt, full, 0)?;
-    full_row(&rt, full, 4611686018427387903)?;
+    full_row(&rt, &full, 0)?;
+    full_row(&rt, &full, 4611686018427387903)?;
     let all = Room::each(PLACES);
     lent(
         &rt,
         "full, row past the last",
-        full,
+        &full,
         31,
         4611686018427387904,
         all,
     )?;
-    lent(&rt, "full, 30 spins", full, 30, 0, all)?;
+    lent(&rt, "full, 30 spins", &full, 30, 0, all)?;
     Ok(())
 }

@@ -1,7 +1,7 @@
 // What a row call delivers into lent buffers, printed on one line.
 use observations::buffers::{Buffers, Room};
 use observations::records::bits;
-use spins::{Delivery, PauliLindbladOpenSystem, Refusal, open_row};
+use spins::{PauliLindbladOpenSystem, Refusal, open_row};
 use std::fmt::{Display, Formatter};
 use std::{fmt, io};
 
@@ -116,7 +116,7 @@ impl Display for Delivered<'_> {
 pub(crate) fn lent(
     rt: &(impl Print + AllocGlobal),
     name: impl Display + Drop,
-    s: PauliLindbladOpenSystem,
+    s: &PauliLindbladOpenSystem,
     spins: u32,
     row: u64,
     room: Room,
@@ -124,16 +124,12 @@ pub(crate) fn lent(
     let mut buffers = Buffers::new(rt.alloc())?;
     let (columns, re, im) = buffers.lend(room);
     print!(rt; "{name}: ")?;
-    let n = match open_row(s, spins, row, columns, re, im) {
-        Delivery::Count(n) => {
-            print!(rt; "{}", Delivered::new(&buffers, n))?;
-            n
-        }
-        Delivery::Refused(why) => {
-            print!(rt; "refused {why}")?;
-            0
-        }
-    };
+    let answer = open_row(s, spins, row, columns, re, im);
+    match answer {
+        Ok(n) => print!(rt; "{}", Delivered::new(&buffers, n))?,
+        Err(why) => print!(rt; "refused {why}")?,
+    }
+    let n = answer.unwrap_or(0);
     let rest = if buffers.kept(n) { "ok" } else { "changed" };
     println!(rt; "; rest {rest}")?;
     Ok(n)

@@ -25,7 +25,7 @@ fn seeded<K: Alphabet>(seed: u8) -> Result<Product<K>, Refusal> {
 fn full_hamiltonian() -> Result<PauliHamiltonian, Refusal> {
     let mut h = PauliHamiltonian::new();
     for n in 1..65 {
-        h = h.set(seeded(n)?, f64::from(n)).set;
+        h.set(seeded(n)?, f64::from(n))?;
     }
     Ok(h)
 }
@@ -37,7 +37,7 @@ fn full_noise() -> Result<PauliLindbladNoiseOperator, Refusal> {
         let re = f64::from(2 * (i + 1));
         let im = 256.0 - re;
         let (left, right) = (seeded(255 - 2 * i)?, seeded(i + 1)?);
-        noise = noise.set(left, right, Complex { re, im }).operator;
+        noise.set(left, right, Complex { re, im })?;
     }
     Ok(noise)
 }
@@ -56,8 +56,10 @@ fn single<K: Alphabet>(site: u8, letter: u8) -> Result<Product<K>, Refusal> {
 }
 
 // A Hamiltonian of one term.
-fn one_term(p: PauliProduct, value: f64) -> PauliHamiltonian {
-    PauliHamiltonian::new().set(p, value).set
+fn one_term(p: PauliProduct, value: f64) -> Result<PauliHamiltonian, Refusal> {
+    let mut h = PauliHamiltonian::new();
+    h.set(p, value)?;
+    Ok(h)
 }
 
 // One pair with a real coefficient.
@@ -65,25 +67,24 @@ fn one_pair(
     left: DecoherenceProduct,
     right: DecoherenceProduct,
     value: f64,
-) -> PauliLindbladNoiseOperator {
-    let value = Complex { re: value, im: 0.0 };
-    PauliLindbladNoiseOperator::new()
-        .set(left, right, value)
-        .operator
+) -> Result<PauliLindbladNoiseOperator, Refusal> {
+    let mut noise = PauliLindbladNoiseOperator::new();
+    noise.set(left, right, value.into())?;
+    Ok(noise)
 }
 
 // 3 times Z0, with the noise (X0, X0), 2.
 pub(crate) fn worked() -> Result<PauliLindbladOpenSystem, Refusal> {
     Ok(PauliLindbladOpenSystem {
-        system: one_term(single(0, 3)?, 3.0),
-        noise: one_pair(single(0, 1)?, single(0, 1)?, 2.0),
+        system: one_term(single(0, 3)?, 3.0)?,
+        noise: one_pair(single(0, 1)?, single(0, 1)?, 2.0)?,
     })
 }
 
 // X on one site, without noise.
 pub(crate) fn at_site(site: u8) -> Result<PauliLindbladOpenSystem, Refusal> {
     Ok(PauliLindbladOpenSystem {
-        system: one_term(single(site, 1)?, 5.0),
+        system: one_term(single(site, 1)?, 5.0)?,
         noise: PauliLindbladNoiseOperator::new(),
     })
 }
@@ -92,6 +93,6 @@ pub(crate) fn at_site(site: u8) -> Result<PauliLindbladOpenSystem, Refusal> {
 pub(crate) fn noise_at_site(site: u8) -> Result<PauliLindbladOpenSystem, Refusal> {
     Ok(PauliLindbladOpenSystem {
         system: PauliHamiltonian::new(),
-        noise: one_pair(single(0, 1)?, single(site, 1)?, 6.0),
+        noise: one_pair(single(0, 1)?, single(site, 1)?, 6.0)?,
     })
 }

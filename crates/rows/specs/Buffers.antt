@@ -1,10 +1,10 @@
 -- Contributions as three arrays of numbers, and the delivery of a row into three lent buffers: over any numbers of two parts, and in f64.
-use Rattle.std.specs.Prelude.{◌≡◌, ℕ, zero, suc, min, Bool, ◌&&◌, cond, List, [], ◌∷◌, ◌++◌, map, leb, length, drop, get_or, Float}
+use Rattle.std.specs.Prelude.{◌≡◌, ℕ, zero, suc, min, Bool, ◌&&◌, cond, Result, List, [], ◌∷◌, ◌++◌, map, leb, length, drop, get_or, Float}
 use Rattle.std.specs.Float.{nan}
-use Rattle.refusal.specs.Refusals.{Said, gives, refuses, number, site_of}
+use Rattle.refusal.specs.Refusals.{Said, said_by}
 use Rattle.complex.specs.declared.Complex.{Complex}
 use Rattle.sorted_lists.specs.Sorting.{up_to}
-use Rattle.rows.specs.declared.Delivery.{Delivery}
+use Rattle.refusal.specs.declared.Refusal.{Refusal}
 
 -- the most contributions: 2 of each of 64 terms of a Hamiltonian and 3 of each of 64 pairs of noise
 abbrev pub most_entries : ℕ
@@ -62,6 +62,5 @@ first_numbers s k = map (λ i. get_or s i 0) (up_to k)
 unfoldable pub put_into : ℕ → List ℕ → List ℕ → List ℕ
 put_into n s old = let k = min (min n most_entries) (length old) in first_numbers s k ++ drop k old
 
-abbrev pub said_delivery : Delivery → Said ℕ
-said_delivery (Delivery.Count n) = gives n
-said_delivery (Delivery.Refused why) = refuses (number why) (site_of why)
+abbrev pub said_delivery : Result ℕ Refusal → Said ℕ
+said_delivery r = said_by (λ n. n) r

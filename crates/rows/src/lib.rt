@@ -16,13 +16,6 @@ use refusal::Refusal;
 use sorting::least;
 use sums::collected;
 
-// The count of the entries delivered.
-#[derive(Clone, Copy)]
-pub enum Delivery {
-    Count(usize),
-    Refused(Refusal),
-}
-
 // The first n columns into the first n places of a buffer, or as many as there are columns and places; the rest keeps what it had.
 pub fn put_columns(src: &[u64; 320], n: usize, out: &mut [u64])
     ensures { out.new ≡ put_into n src.now out.old }
@@ -56,23 +49,17 @@ fn handed_over(
     out_columns: &mut [u64],
     out_re: &mut [f64],
     out_im: &mut [f64],
-) -> Delivery
+) -> Result<usize, Refusal>
     requires { (n ≤ 320) × Long columns.now re.now im.now }
     ensures { RowCall (gives (entries columns.now re.now im.now n)) (said_delivery result) out_columns.old out_columns.new out_re.old out_re.new out_im.old out_im.new }
 {
-    if out_columns.len() < n {
-        return Delivery::Refused(Refusal::BufferTooShort);
-    }
-    if out_re.len() < n {
-        return Delivery::Refused(Refusal::BufferTooShort);
-    }
-    if out_im.len() < n {
-        return Delivery::Refused(Refusal::BufferTooShort);
+    if out_columns.len() < n || out_re.len() < n || out_im.len() < n {
+        return Err(Refusal::BufferTooShort);
     }
     put_columns(columns, n, out_columns);
     put_parts(re, n, out_re);
     put_parts(im, n, out_im);
-    Delivery::Count(n)
+    Ok(n)
 }
 
 // The row of the first n contributions, with zero sums or without them.
@@ -85,11 +72,11 @@ pub fn deliver(
     out_columns: &mut [u64],
     out_re: &mut [f64],
     out_im: &mut [f64],
-) -> Delivery
+) -> Result<usize, Refusal>
     ensures { RowCall (unless_malformed (leb n most_entries) (row_in floats zeros (entries columns.now re.now im.now n))) (said_delivery result) out_columns.old out_columns.new out_re.old out_re.new out_im.old out_im.new }
 {
     if n > 320 {
-        return Delivery::Refused(Refusal::Malformed);
+        return Err(Refusal::Malformed);
     }
     let mut a = [0u64; 320];
     let mut b = [0.0f64; 320];
@@ -111,14 +98,14 @@ pub fn deliver_both(
     out_columns: &mut [u64],
     out_re: &mut [f64],
     out_im: &mut [f64],
-) -> Delivery
+) -> Result<usize, Refusal>
     ensures { RowCall (unless_malformed (leb (c_n + n_n) most_entries) (open_row_in floats (entries c_columns.now c_re.now c_im.now c_n) (entries n_columns.now n_re.now n_im.now n_n))) (said_delivery result) out_columns.old out_columns.new out_re.old out_re.new out_im.old out_im.new }
 {
     if c_n > 320 {
-        return Delivery::Refused(Refusal::Malformed);
+        return Err(Refusal::Malformed);
     }
     if n_n > 320 - c_n {
-        return Delivery::Refused(Refusal::Malformed);
+        return Err(Refusal::Malformed);
     }
     let mut a = [0u64; 320];
     let mut b = [0.0f64; 320];

@@ -7,6 +7,7 @@ ghost use Rattle.rows.specs.Placing.{kept_by, row_in};
 ghost use Rattle.rows.specs.Buffers.{Long, float_parts, value_in, entry_in, entries};
 
 use complex::Complex;
+use complex::coefficient::Coefficient;
 use sorting::sorted_places;
 
 // The value of a contribution.
@@ -33,10 +34,8 @@ fn put(
     requires { (count < 320) × Long out_columns.old out_re.old out_im.old }
     ensures { (result ≤ count + 1) × (entries out_columns.new out_re.new out_im.new result ≡ entries out_columns.old out_re.old out_im.old count ++ kept_by floats.is_zero zeros ((column, value) ∷ [])) × Long out_columns.new out_re.new out_im.new }
 {
-    if !zeros {
-        if value.is_zero() {
-            return count;
-        }
+    if !zeros && value.is_zero() {
+        return count;
     }
     out_columns[count] = column;
     out_re[count] = value.re;

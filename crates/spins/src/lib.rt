@@ -2,12 +2,13 @@
 #![tactic(auto)]
 
 // Refusals and their numbers.
-pub use refusal::{Outcome, Refusal};
+pub use refusal::Refusal;
 
 // Complex numbers.
 pub use complex::Complex;
+pub use complex::coefficient::Coefficient;
 
-// The letters of one site.
+// The letters of one site, as values and as types.
 pub use letters::alphabet::{Alphabet, DecoherenceLetters, PauliLetters};
 pub use letters::{HIGHEST_LETTER, Kind, Scaled};
 
@@ -17,24 +18,17 @@ pub use products::{DecoherenceProduct, PauliProduct, Product, ProductEntry, With
 pub use row_entries::MOST_SPINS;
 
 // Sets of terms: operators and Hamiltonians.
-pub use hamiltonians::pauli_hamiltonian::{
-    HamiltonianAfterSet, HamiltonianAnswer, PauliHamiltonian, RealTerm,
-};
-pub use operators::decoherence_operator::{
-    DecoherenceOperator, DecoherenceOperatorAfterSet, DecoherenceOperatorAnswer,
-};
-pub use operators::pauli_operator::{PauliOperator, PauliOperatorAfterSet, PauliOperatorAnswer};
-pub use term_sets::{GetAnswer, SetAnswer, Term, TermSet};
+pub use hamiltonians::PauliHamiltonian;
+pub use operators::{DecoherenceOperator, Operator, PauliOperator, operator_of};
+pub use term_sets::key::Key;
+pub use term_sets::{NoiseSet, RealSet, Set, Term, TermSet};
 pub use terms::MOST_TERMS;
 
 // Noise.
-pub use noise::pauli_noise_operator::{
-    NoiseOperatorAfterSet, NoiseOperatorAnswer, PauliLindbladNoiseOperator,
-};
-pub use noise_sets::{NoiseSet, NoiseTerm};
+pub use noise::PauliLindbladNoiseOperator;
 
 // Open systems.
-pub use open_system::{OpenSystemAnswer, PauliLindbladOpenSystem};
+pub use open_system::PauliLindbladOpenSystem;
 
 // Rows, delivered into lent buffers.
 pub use exact_rows::exact_row;
@@ -43,4 +37,3 @@ pub use open_rows::row as open_row;
 pub use operator_rows::{
     commutator_row, hamiltonian_commutator_row, hamiltonian_row, operator_row,
 };
-pub use rows::Delivery;

@@ -1,31 +1,69 @@
--- Masks of terms: of a good term they are those that judging its product answered, and good terms with the same masks have one key.
+-- Masks: those that are the same are equal, those whose mark is not set were not seen, and those of good keys tell the keys apart.
 -- Assumes nothing.
-use Prim.Native.Nat.{ℕ}
-use mathlib.Core.Path.{◌≡◌, refl, sym, subst}
-use mathlib.Core.Bool.{Bool, true, false, ◌&&◌, cond}
+use Prim.Native.Nat.{ℕ, ◌<◌}
+use native.Mathlib.Omega.{arith}
+use mathlib.Core.Path.{◌≡◌, refl, sym, ap, ◌∙◌}
+use mathlib.Core.Bool.{Bool, true, false, ◌||◌, true≢false}
+use mathlib.Core.List.{List, [], ◌∷◌}
 use lib.Dec.{eqb}
-use Rattle.std.specs.Prelude.{Some, None}
-use Rattle.std.proofs.lemmas.Option.{cond_some}
-use borrow.Author.Tests.{eqb-true}
-use Rattle.items.specs.Record.{valid, same_items}
-use Rattle.items.specs.Masks.{masks_of}
-use Rattle.items.specs.Verdicts.{judged}
-use Rattle.items.specs.declared.Items.{Items}
-use Rattle.items.proofs.SameLaws.{same_self}
-use Rattle.items.proofs.MaskKeys.{masks_same}
+use lib.ListN.{get_or, take, length-take}
+use lib.Seq.{get_or-take}
+use borrow.Author.Tests.{eq-eqb, eqb-true}
+use Rattle.letters.proofs.TestLaws.{and_true, and_left, and_right}
+use Rattle.std.proofs.lemmas.List.Recursion.{or_from_places}
+use Rattle.std.specs.List.{list_any}
+use Rattle.terms.specs.Keyed.{has}
+use Rattle.terms.proofs.KeyedLaws.{by_test}
+use Rattle.terms.proofs.FingerprintLaws.{Fingerprints}
+use Rattle.complex.specs.Coefficients.{Coefficients}
+use Rattle.term_sets.specs.Keys.{Keys, KeyLaws}
+use Rattle.term_sets.specs.Seen.{mark_of, same_masks, holds, Marked}
+use Rattle.term_sets.specs.Sets.{terms}
+use Rattle.term_sets.specs.declared.masks.Masks.{Masks}
 
--- a product judged is valid, and these are its masks
-pub judged_some : (p : Items) {m : ℕ} → judged p ≡ Some m → (valid p ≡ true) × (m ≡ masks_of p)
-judged_some p e = let q = cond_some _ _ _ e in (q.0, sym q.1)
+pub same_masks_self : (x : Masks) → same_masks x x ≡ true
+same_masks_self x = and_true (eq-eqb x.left x.left refl) (eq-eqb x.right x.right refl)
 
--- none is answered only where the test fails
-pub cond_none : {A : Type 0} (b : Bool) (x : A) → cond b (Some x) None ≡ None → b ≡ false
-cond_none true x e = cc
-cond_none false x e = refl
+pub same_masks-equal : (x y : Masks) → same_masks x y ≡ true → x ≡ y
+same_masks-equal x y e =
+    let left : x.left ≡ y.left = eqb-true x.left y.left (and_left (eqb x.left y.left) (eqb x.right y.right) e) in
+    let right : x.right ≡ y.right = eqb-true x.right y.right (and_right (eqb x.left y.left) (eqb x.right y.right) e) in
+    λ j. record { left = left j; right = right j }
 
--- a product refused is not valid, so a term with it is not good
-pub not_judged : (p : Items) (u : Bool) → judged p ≡ None → (valid p && u) ≡ false
-not_judged p u e = rw (cond_none (valid p) (masks_of p) e)
+-- ---- masks that were seen
 
-pub masks_again : (p q : Items) → valid p ≡ true → valid q ≡ true → eqb (masks_of q) (masks_of p) ≡ true → same_items p q ≡ true
-masks_again p q v w e = subst (λ (x : Items). same_items p x ≡ true) (masks_same p q v w (sym (eqb-true (masks_of q) (masks_of p) e))) (same_self p)
+-- what a search of a list answers
+pub any_holds : (x : Masks) (l : List Masks) → list_any (λ y. same_masks y x) l ≡ holds l x
+unfolding has
+any_holds x [] = refl
+any_holds x (y ∷ l) = ap (λ (b : Bool). same_masks y x || b) (any_holds x l)
+
+-- the mark of x is not set: x is none of the first n masks
+pub unmarked_new : {n : ℕ} {masks : List Masks} {marks : List Bool} (x : Masks) → Marked n masks marks → get_or marks (mark_of x) false ≡ false → holds (take n masks) x ≡ false
+unfolding has
+unmarked_new {n} {masks} {marks} x m e =
+    let none : Masks = record { left = 0; right = 0 } in
+    or_from_places (λ l. holds l x) (λ y. same_masks y x) refl (λ y l. refl) (take n masks) none
+    (λ j h.
+    let b : j < n = omega (arith, length-take n masks) in
+    by_test (same_masks (get_or (take n masks) j none) x)
+    (λ s.
+    let q : get_or masks j none ≡ x = sym (get_or-take n masks j none b) ∙ same_masks-equal (get_or (take n masks) j none) x s in
+    absurd (true≢false (sym (m.each j b) ∙ ap (λ (y : Masks). get_or marks (mark_of y) false) q ∙ e)))
+    (λ f. f))
+
+-- ---- masks of keys
+
+module _ {K N : Type 0} (k : Keys K) (c : Coefficients N) (laws : KeyLaws k) where
+  -- as fingerprints: the same keys share them
+  abbrev pub masks_as : Fingerprints (terms k c) Masks
+  masks_as =
+      record {
+        fingerprint = k.masks_of;
+        same = same_masks;
+        shared = λ x y e. ap (λ (z : K). same_masks (k.masks_of y) (k.masks_of z)) (laws.equal x y e) ∙ same_masks_self (k.masks_of y);
+      }
+
+  -- good keys with the same masks are the same
+  pub masks_again : (x y : K) → k.good x ≡ true → k.good y ≡ true → same_masks (k.masks_of y) (k.masks_of x) ≡ true → k.same x y ≡ true
+  masks_again x y g h e = laws.told_apart x y g h (same_masks-equal (k.masks_of y) (k.masks_of x) e)

@@ -1,44 +1,34 @@
--- What an answer says determines it: the readings that the contracts name are one to one, so an equation with a definition fixes the answer.
+-- What an answer says determines it: the readings that the contracts name are one to one, so an equation with a definition fixes the answer. And what
+-- a refusal that is passed on says.
 -- Assumes nothing.
 use mathlib.Core.Path.{◌≡◌, refl, ap}
-use mathlib.Core.List.{List, [], ◌∷◌}
-use Rattle.refusal.proofs.RefusalLaws.{refusal_is, answer_of, reading_known, outcome_known}
-use Rattle.complex.specs.declared.Complex.{Complex}
-use Rattle.term_sets.specs.Answers.{said_get, said_set, told_set, told}
-use Rattle.term_sets.specs.declared.GetAnswer.{GetAnswer}
-use Rattle.term_sets.specs.declared.SetAnswer.{SetAnswer}
-use Rattle.term_sets.specs.declared.TermSetAfterSet.{TermSetAfterSet}
-use Rattle.term_sets.specs.declared.TermSetAnswer.{TermSetAnswer}
+use mathlib.Core.List.{[], ◌∷◌}
+use lib.Ieee.{Float}
+use Rattle.std.specs.Prelude.{Some, None, Result, Ok, Err}
+use Rattle.std.specs.Result.{IsErrAnd}
+use Rattle.refusal.specs.Refusals.{listed, number, site_of, gives, refuses, said_by}
+use Rattle.refusal.specs.declared.Refusal.{Refusal}
+use Rattle.refusal.proofs.RefusalLaws.{OneToOne, listed_known, said_by_known}
+use Rattle.term_sets.specs.Answers.{said_get, said_set}
 
--- ---- the answers of `get` and `set`
+-- ---- what setting a coefficient says of the one that was there: its parts in their order, or nothing
 
-pub get_answer_known : (x y : GetAnswer) → said_get x ≡ said_get y → x ≡ y
-get_answer_known = reading_known said_get GetAnswer.Coefficient GetAnswer.Refused back
-  where
-    back : (x : GetAnswer) → answer_of GetAnswer.Coefficient GetAnswer.Refused (said_get x) ≡ x
-    back (GetAnswer.Coefficient a) = refl
-    back (GetAnswer.Refused why) = ap GetAnswer.Refused (refusal_is why)
+pub said_replaced : (x y : Float) → said_set (Ok (Some (record { re = x; im = y }))) ≡ gives (record { re = x; im = y } ∷ [])
+said_replaced x y = refl
 
-pub set_answer_known : (x y : SetAnswer) → said_set x ≡ said_set y → x ≡ y
-set_answer_known = reading_known said_set given SetAnswer.Refused back
-  where
-    given : List Complex → SetAnswer
-    given [] = SetAnswer.WasFree
-    given (z ∷ zs) = SetAnswer.Replaced z.re z.im
+pub said_free : said_set (Ok None) ≡ gives []
+said_free = refl
 
-    back : (x : SetAnswer) → answer_of given SetAnswer.Refused (said_set x) ≡ x
-    back (SetAnswer.Replaced a b) = refl
-    back SetAnswer.WasFree = refl
-    back (SetAnswer.Refused why) = ap SetAnswer.Refused (refusal_is why)
+-- ---- one to one
 
--- ---- answers with the set beside them
+pub get_answer_known : OneToOne said_get
+get_answer_known = said_by_known (λ a. a) (λ x y e. e)
 
-pub told_set_known : (x y : TermSetAfterSet) → told_set x ≡ told_set y → x ≡ y
-told_set_known x y e =
-    let a = set_answer_known x.answer y.answer (λ j. (e j).0) in
-    λ j. record { answer = a j; set = (e j).1 }
+pub set_answer_known : OneToOne said_set
+set_answer_known = said_by_known listed listed_known
 
-pub told_known : (x y : TermSetAnswer) → told x ≡ told y → x ≡ y
-told_known x y e =
-    let a = outcome_known x.outcome y.outcome (λ j. (e j).0) in
-    λ j. record { outcome = a j; set = (e j).1 }
+-- ---- what `?` leaves
+
+pub passed_on : {V A : Type 0} (show : V → A) (r : Result V Refusal) (why : Refusal) → IsErrAnd r (λ w. w ≡ why) → said_by show r ≡ refuses (number why) (site_of why)
+passed_on show (Ok v) why h = absurd h
+passed_on show (Err w) why h = ap (λ x. refuses (number x) (site_of x)) h

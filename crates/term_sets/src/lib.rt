@@ -1,157 +1,133 @@
-// A set of terms with complex coefficients: the first `count` places hold terms, zero records stand past them.
+// Sets of terms: the first `count` places hold terms, a key and its coefficient each, zero records stand past them.
 #![tactic(auto)]
 
-ghost use Rattle.std.specs.Prelude.{◌≡◌, [], map, min};
-ghost use Rattle.term_sets.specs.Complexes.{blank, filled, complex_terms, held_by, valid_set};
+ghost use Rattle.std.specs.Prelude.{◌≡◌, ◌≤◌, [], map, length};
+ghost use Rattle.term_sets.specs.Sets.{terms, blank, filled, held_by, StandsAt, get_in};
 ghost use Rattle.terms.specs.Setting.{most_terms, keyed, coefficient_at};
-ghost use Rattle.terms.specs.Keyed.{first_at, held};
-ghost use Rattle.refusal.specs.Refusals.{gives};
-ghost use Rattle.term_sets.specs.Answers.{said_set, said_get, get_term};
+ghost use Rattle.terms.specs.Keyed.{held};
+ghost use Rattle.refusal.specs.Refusals.{listed, said_by};
 
-mod valid_terms;
+pub mod judging;
+pub mod key;
+pub mod masks;
+mod seen;
 
-use crate::valid_terms::{all_good, blanks_past};
+use crate::key::Key;
 use complex::Complex;
+use complex::coefficient::Coefficient;
 use items::Items;
-use refusal::{Outcome, Refusal};
+use refusal::Refusal;
+use std::alloc::AllocError;
 use terms::MOST_TERMS;
 
 #[derive(Clone, Copy)]
-pub struct Term {
-    pub items: Items,
-    pub coefficient: Complex,
+pub struct Term<K, N> {
+    pub key: K,
+    pub coefficient: N,
 }
 
-#[derive(Clone, Copy)]
-pub struct TermSet {
+#[derive(Copy)]
+pub struct Set<K, N> {
     pub count: usize,
-    pub terms: [Term; MOST_TERMS],
+    pub terms: [Term<K, N>; MOST_TERMS],
 }
 
-// What a key's coefficient is.
-#[derive(Clone, Copy)]
-pub enum GetAnswer {
-    Coefficient(Complex),
-    Refused(Refusal),
-}
+// A copy, which needs no memory; a derived clone, of one term after the other, does not say so of an array at a type parameter.
+impl<K: Copy, N: Copy> Clone for Set<K, N> {
+    ghost use Rattle.std.specs.Prelude.{◌≡◌, ⊤};
 
-// What was under a key before: the two parts of its coefficient, or nothing.
-#[derive(Clone, Copy)]
-pub enum SetAnswer {
-    Replaced(f64, f64),
-    WasFree,
-    Refused(Refusal),
-}
+    ghost is_clone = { λ x y. y ≡ x };
 
-#[derive(Clone, Copy)]
-pub struct TermSetAfterSet {
-    pub answer: SetAnswer,
-    pub set: TermSet,
-}
+    ghost is_infallible = { λ s. ⊤ };
 
-#[derive(Clone, Copy)]
-pub struct TermSetAnswer {
-    pub outcome: Outcome,
-    pub set: TermSet,
-}
-
-// The zero record.
-pub fn blank_term() -> Term
-    ensures { result ≡ blank }
-{
-    Term {
-        items: Items::new(),
-        coefficient: Complex { re: 0.0, im: 0.0 },
+    fn clone(&self) -> Result<Set<K, N>, AllocError> {
+        Ok(*self)
     }
 }
 
-// The empty set.
-pub fn empty_set() -> TermSet
-    ensures { result ≡ filled [] }
+// Products with complex coefficients.
+pub type TermSet = Set<Items, Complex>;
+
+// Products with real coefficients.
+pub type RealSet = Set<Items, f64>;
+
+// Pairs of decoherence products with complex coefficients.
+pub type NoiseSet = Set<(Items, Items), Complex>;
+
+// The places of a set. Code at type parameters learns their number here.
+pub fn places<T>(t: &[T; MOST_TERMS]) -> &[T]
+    ensures { (result.now ≡ t.now) × (length t.now ≡ most_terms) }
 {
-    TermSet {
-        count: 0,
-        terms: [blank_term(); MOST_TERMS],
-    }
+    &t[..]
 }
 
-// How many terms a set with such a count holds: at most as many as it has places.
-pub fn held_count(count: usize) -> usize
-    ensures { result ≡ min count most_terms }
-{
-    if count < MOST_TERMS {
-        count
-    } else {
-        MOST_TERMS
-    }
-}
-
-// The place of the first term with a key; where there is none, the end of the held terms.
-pub fn find(s: TermSet, key: Items) -> usize
-    ensures { result ≡ first_at (keyed complex_terms key) (held_by s) }
-{
-    let n = held_count(s.count);
-    let mut i: usize = 0;
-    while i < n {
-        let t = s.terms[i];
-        let p = t.items;
-        if p == key {
-            return i;
+impl<K: Key, N: Coefficient> Term<K, N> {
+    // The zero record.
+    pub fn blank() -> Self
+        ensures { result ≡ blank K.keys N.numbers }
+    {
+        Term {
+            key: K::blank(),
+            coefficient: N::zero(),
         }
-        i += 1;
     }
-    i
 }
 
-// The coefficient under a key, zero where it is free.
-pub fn coefficient_at(s: TermSet, key: Items) -> Complex
-    ensures { result ≡ coefficient_at complex_terms key (held_by s) }
-{
-    let n = held_count(s.count);
-    let i = find(s, key);
-    if i < n {
-        let t = s.terms[i];
-        return t.coefficient;
+impl<K: Key, N: Coefficient> Set<K, N> {
+    // The empty set.
+    pub fn new() -> Self
+        ensures { result ≡ filled K.keys N.numbers [] }
+    {
+        Set {
+            count: 0,
+            terms: [Term::blank(); MOST_TERMS],
+        }
     }
-    Complex { re: 0.0, im: 0.0 }
-}
 
-// What `set` answers of the key as it was.
-pub fn was(s: TermSet, key: Items) -> SetAnswer
-    ensures { said_set result ≡ gives (map (λ t. t.coefficient) (held (keyed complex_terms key) (held_by s))) }
-{
-    let n = held_count(s.count);
-    let i = find(s, key);
-    if i < n {
-        let t = s.terms[i];
-        let c = t.coefficient;
-        return SetAnswer::Replaced(c.re, c.im);
+    // The terms that the set holds: at most as many as it has places.
+    pub fn held(&self) -> &[Term<K, N>]
+        ensures { result.now ≡ held_by self.now }
+    {
+        &places(&self.terms)[..self.count.min(MOST_TERMS)]
     }
-    SetAnswer::WasFree
-}
 
-// Whether number 0 lets the set pass; only a `PauliOperator` may hold zeros.
-pub fn is_valid(zeros: bool, s: TermSet) -> bool
-    ensures { result ≡ valid_set zeros s }
-{
-    if MOST_TERMS < s.count {
-        return false;
+    // How many terms the set holds.
+    pub fn held_count(&self) -> usize
+        ensures { (result ≡ length (held_by self.now)) × (result ≤ most_terms) }
+    {
+        self.count.min(places(&self.terms).len())
     }
-    if all_good(zeros, s) {
-        return blanks_past(s);
-    }
-    false
-}
 
-// The coefficient under a key.
-pub fn get(zeros: bool, s: TermSet, key: Items) -> GetAnswer
-    ensures { said_get result ≡ get_term zeros s key }
-{
-    if !is_valid(zeros, s) {
-        return GetAnswer::Refused(Refusal::Malformed);
+    // The place of the first term with a key.
+    pub fn find(&self, key: &K) -> Option<usize>
+        ensures { StandsAt K.keys N.numbers key.now (held_by self.now) result }
+    {
+        self.held().iter().position(|t| t.key.is_same(key))
     }
-    if !key.is_valid() {
-        return GetAnswer::Refused(Refusal::Malformed);
+
+    // The coefficient of a key.
+    pub fn coefficient_of(&self, key: &K) -> Option<N>
+        ensures { listed result ≡ map (λ t. t.coefficient) (held (keyed (terms K.keys N.numbers) key.now) (held_by self.now)) }
+    {
+        let at = self.find(key)?;
+        Some(self.held()[at].coefficient)
     }
-    GetAnswer::Coefficient(coefficient_at(s, key))
+
+    // The coefficient under a key, zero where it is free.
+    pub fn coefficient_at(&self, key: &K) -> N
+        ensures { result ≡ coefficient_at (terms K.keys N.numbers) key.now (held_by self.now) }
+    {
+        self.coefficient_of(key).unwrap_or(N::zero())
+    }
+
+    // The coefficient under a key, judged: 0, and what the key gives.
+    pub fn get(&self, zeros: bool, key: &K) -> Result<N, Refusal>
+        ensures { said_by (λ a. a) result ≡ get_in K.keys N.numbers zeros self.now key.now }
+    {
+        if !self.is_valid(zeros) {
+            return Err(Refusal::Malformed);
+        }
+        key.check()?;
+        Ok(self.coefficient_at(key))
+    }
 }

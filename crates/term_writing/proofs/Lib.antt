@@ -1,1 +1,6 @@
-pub mod NumberLaws
+mod GapLaws
+mod WritingLaws
+mod NumberLaws
+mod EntryLaws
+pub mod Instances
+pub mod ChainLaws

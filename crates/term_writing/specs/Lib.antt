@@ -1,2 +1,3 @@
 pub mod WritingAnswers
-pub mod Striking
+pub mod Numbered
+pub mod Checked

@@ -1,12 +1,15 @@
 -- Sets as records of a count and places, for any kind of them: what the set that holds given terms has, and that a set that holds its own
--- terms has blanks past its count.
+-- terms has blanks past its count; such a set without one of its terms.
 -- Assumes nothing.
-use Prim.Native.Nat.{ℕ}
+use Prim.Native.Nat.{ℕ, ◌-◌, ◌<◌}
+use native.Mathlib.Omega.{arith}
 use mathlib.Core.Path.{◌≡◌, sym, ap, ◌∙◌}
-use mathlib.Core.List.{List}
-use lib.ListN.{length, take}
-use Rattle.terms.specs.Keyed.{padded}
+use mathlib.Core.List.{List, ◌++◌}
+use lib.ListN.{length, take, drop, set}
+use lib.Seq.{take_all}
+use Rattle.terms.specs.Keyed.{padded, omitted}
 use Rattle.terms.specs.Setting.{most_terms}
+use Rattle.terms.proofs.ClosingLaws.{closed_up, length-omitted, closed_up_lem}
 use Rattle.terms.proofs.SettingLaws.{Held, held_by_lem, terms_of}
 
 -- a kind of set with terms of A: what stands past the count, a set's count and places, the set of a count and places, and the set that holds
@@ -62,3 +65,14 @@ module _ {A R : Type 0} (T : Sets A R) where
 
   pub own_from : (s : R) (l : List A) → s ≡ T.filled l → s ≡ T.filled (held_in s)
   own_from s l e = e ∙ ap T.filled (sym (held-from s l e))
+
+-- a set without its term at a place, as code writes it: later places close up, and the blank stands last
+pub struck-filled : {A R : Type 0} (T : Sets A R) (at n : ℕ) (t : List A) → Held T.blank n t → at < n
+    → T.make (n - 1) (set (closed_up at n t) (n - 1) T.blank) ≡ T.filled (omitted at (take n t))
+struck-filled {A} T at n t h m =
+    let l = take n t in
+    let o = length-omitted at l (omega (arith, h.long)) in
+    filled-made T (n - 1) _ (omitted at l) (omega (arith, h.long))
+    (ap (λ (u : List A). set (omitted at l ++ drop (n - 1) u) (n - 1) T.blank) h.pads
+    ∙ ap (λ (r : List A). set (r ++ drop (n - 1) (padded most_terms T.blank l)) (n - 1) T.blank) (sym (take_all (n - 1) (omitted at l) (omega (arith, h.long))))
+    ∙ closed_up_lem most_terms at T.blank l (n - 1) (omega (arith, h.long)) (omega (arith, h.long, h.few)) (omega (arith, h.long)))

@@ -1,28 +1,23 @@
--- A loop that judges a set's terms one after the other, for any kind of set: each term alone, and by a fingerprint of its key, which the
--- same keys share, against those of the terms before it. The fingerprints stand in an array or in several, and `read j` is the one of place j.
+-- A walk over terms that judges one after the other, for any kind of them: each term alone, and by a fingerprint of its key, which the same keys
+-- share, against those of the terms before it.
 -- Assumes nothing.
-use Prim.Native.Nat.{ℕ, suc, ◌+◌, ◌-◌, ◌≤◌, ◌<◌}
-use native.Mathlib.Nat.{le_antisymm, eq-or-lt_of_le}
+use Prim.Native.Nat.{ℕ, ◌+◌, ◌≤◌, ◌<◌}
 use native.Mathlib.Numerals.{add-one}
 use native.Mathlib.Omega.{arith}
-use mathlib.Core.Path.{◌≡◌, refl, sym, ap, ◌∙◌, subst}
+use mathlib.Core.Path.{◌≡◌, refl, sym, ap, ◌∙◌}
 use mathlib.Core.Bool.{Bool, true, false, not, ◌&&◌, true≢false}
-use mathlib.Core.List.{List, [], ◌∷◌, ◌++◌}
-use mathlib.Core.Logic.{⊎_elim}
-use lib.Dec.{eqb}
-use lib.ListN.{length, take, drop, get_or, set, length-drop}
-use lib.Seq.{get_or-take, get_or-drop, get_or-set_other, length-take-le, take-suc}
-use borrow.Author.Tests.{eq-eqb, not-true}
-use Rattle.letters.specs.Tests.{every}
-use Rattle.letters.proofs.TestLaws.{and_true, and_left, and_right, every-at, every_intro}
+use mathlib.Core.List.{List, [], ◌∷◌, ◌++◌, map}
+use lib.ListN.{length, take, drop, get_or}
+use lib.Seq.{take-suc, drop-cons}
+use Rattle.std.proofs.lemmas.List.{take-append-drop}
+use borrow.Author.Tests.{not-true}
+use Rattle.letters.proofs.TestLaws.{and_true, and_left, and_right, neither}
 use Rattle.terms.specs.Keyed.{has, each}
 use Rattle.terms.specs.Kind.{Terms}
-use Rattle.terms.specs.Setting.{most_terms, keyed}
+use Rattle.terms.specs.Setting.{keyed}
 use Rattle.terms.specs.Places.{good_term}
-use Rattle.terms.proofs.KeyedLaws.{each_cons, each_head, each_tail, each_at, by_test, has_last, none_at}
-use Rattle.terms.proofs.EachLaws.{get_d_any}
+use Rattle.terms.proofs.KeyedLaws.{each_cons, each_head, each_tail, each_at, by_test, has_last, map_more}
 use Rattle.terms.proofs.GoodLaws.{good_key_lem, good_coefficient_lem, good_different}
-use Rattle.terms.proofs.ValidSetLaws.{ValidSets}
 
 -- a fingerprint of each key, and a test of two that those of the same keys pass
 pub record Fingerprints {K N : Type 0} (S : Terms K N) (B : Type 0) : Type 0 where
@@ -30,35 +25,40 @@ pub record Fingerprints {K N : Type 0} (S : Terms K N) (B : Type 0) : Type 0 whe
   pub same : B → B → Bool
   pub shared : (x y : K) → S.same x y ≡ true → same (fingerprint y) (fingerprint x) ≡ true
 
-module _ {K N : Type 0} (S : Terms K N) (equal : (x y : K) → S.same x y ≡ true → x ≡ y) where
-  -- where only equal keys are the same: any one number of a key, or two
-  abbrev pub one_fingerprint : (K → ℕ) → Fingerprints S ℕ
-  one_fingerprint f = record { fingerprint = f; same = eqb; shared = λ x y e. eq-eqb (f y) (f x) (ap f (sym (equal x y e))) }
+-- a test of an element between others
+has_within : {A : Type 0} (p : A → Bool) (l : List A) (t : A) (ts : List A) → has p (l ++ t ∷ ts) ≡ false → p t ≡ false
+unfolding has
+has_within p [] t ts e = (neither (p t) (has p ts) e).0
+has_within p (x ∷ l) t ts e = has_within p l t ts (neither (p x) (has p (l ++ t ∷ ts)) e).1
 
-  abbrev pub two_fingerprints : (K → ℕ) → (K → ℕ) → Fingerprints S (ℕ × ℕ)
-  two_fingerprints f g =
-      record {
-        fingerprint = λ k. (f k, g k);
-        same = λ a b. eqb a.0 b.0 && eqb a.1 b.1;
-        shared =
-            λ x y e.
-            let q = sym (equal x y e) in
-            and_true (eq-eqb (f y) (f x) (ap f q)) (eq-eqb (g y) (g x) (ap g q));
-      }
+each_within : {A : Type 0} (p : A → List A → Bool) (l : List A) (t : A) (ts : List A) → each p (l ++ t ∷ ts) ≡ true → p t ts ≡ true
+each_within p [] t ts e = each_head p t ts e
+each_within p (x ∷ l) t ts e = each_within p l t ts (each_tail p x (l ++ t ∷ ts) e)
 
--- one stored at i: the earlier places stay as they were
-pub stored_before : (l : List ℕ) (i x j : ℕ) → j < i → get_or (set l i x) j 0 ≡ get_or l j 0
-stored_before l i x j h = get_or-set_other l i j x 0 (λ e. omega arith)
+-- ---- the walk: the first i of the terms l are good, and m has their fingerprints
 
--- ---- one good term more, at the end
+pub record Fingerprinted {A B : Type 0} (good : A → List A → Bool) (mark : A → B) (l : List A) (m : List B) (i : ℕ) : Type 0 where
+  pub within : i ≤ length l
+  pub judged : each good (take i l) ≡ true
+  pub stored : m ≡ map mark (take i l)
 
-module _ {K N : Type 0} (S : Terms K N) (good_key : K → Bool) (good_coefficient : N → Bool) where
+module _ {A B : Type 0} {good : A → List A → Bool} {mark : A → B} {l : List A} {m : List B} where
+  pub fingerprinted_none : m ≡ [] → Fingerprinted good mark l m 0
+  unfolding each
+  fingerprinted_none e = record { within = omega arith; judged = refl; stored = e }
+
+module _ {K N B : Type 0} (S : Terms K N) (good_key : K → Bool) (good_coefficient : N → Bool) (M : Fingerprints S B) where
   abbrev good : S.Term → List S.Term → Bool
   good = good_term S good_key good_coefficient
 
   -- the tests of a term alone
   abbrev alone : S.Term → Bool
   alone t = good_key (S.key t) && good_coefficient (S.coefficient t)
+
+  abbrev mark : S.Term → B
+  mark t = M.fingerprint (S.key t)
+
+  -- ---- one good term more, at the end
 
   good_by : (t : S.Term) (ts : List S.Term) → alone t ≡ true → has (keyed S (S.key t)) ts ≡ false → good t ts ≡ true
   unfolding good_term
@@ -69,122 +69,63 @@ module _ {K N : Type 0} (S : Terms K N) (good_key : K → Bool) (good_coefficien
   good_alone : (t : S.Term) (ts : List S.Term) → good t ts ≡ true → alone t ≡ true
   good_alone t ts g = and_true (good_key_lem S good_key good_coefficient t ts g) (good_coefficient_lem S good_key good_coefficient t ts g)
 
-  good_last : (d t : S.Term) (l : List S.Term) → alone t ≡ true → ((j : ℕ) → j < length l → S.same (S.key t) (S.key (get_or l j d)) ≡ false)
-      → each good l ≡ true → each good (l ++ t ∷ []) ≡ true
+  -- no term before it has its fingerprint
+  good_last : (t : S.Term) (l : List S.Term) → alone t ≡ true → has (λ b. M.same b (mark t)) (map mark l) ≡ false → each good l ≡ true → each good (l ++ t ∷ []) ≡ true
   unfolding has each
-  good_last d t [] a f e = each_cons good t [] (good_by t [] a refl) refl
-  good_last d t (x ∷ l) a f e =
+  good_last t [] a f e = each_cons good t [] (good_by t [] a refl) refl
+  good_last t (x ∷ l) a f e =
       let g = each_head good x l e in
+      let n = neither (M.same (mark x) (mark t)) (has (λ b. M.same b (mark t)) (map mark l)) f in
       let once = not-true (has (keyed S (S.key x)) l) (good_different S good_key good_coefficient x l g) in
-      each_cons good x (l ++ t ∷ [])
-      (good_by x (l ++ t ∷ []) (good_alone x l g) (has_last (keyed S (S.key x)) t l once (f 0 (omega arith))))
-      (good_last d t l a (λ j h. f (suc j) (omega arith)) (each_tail good x l e))
+      let other : S.same (S.key t) (S.key x) ≡ false =
+      by_test (S.same (S.key t) (S.key x)) (λ s. absurd (true≢false (sym (M.shared (S.key t) (S.key x) s) ∙ n.0))) (λ s. s) in
+      each_cons good x (l ++ t ∷ []) (good_by x (l ++ t ∷ []) (good_alone x l g) (has_last (keyed S (S.key x)) t l once other)) (good_last t l a n.1 (each_tail good x l e))
 
--- ---- the loop: the terms below i are good, and their fingerprints stand in their places
+  -- among good terms no fingerprint repeats, where good keys with one fingerprint are the same
+  good_once : ((k m : K) → good_key k ≡ true → good_key m ≡ true → M.same (M.fingerprint m) (M.fingerprint k) ≡ true → S.same k m ≡ true)
+      → (t : S.Term) (l ts : List S.Term) → each good (l ++ t ∷ ts) ≡ true → has (λ b. M.same b (mark t)) (map mark l) ≡ false
+  unfolding has
+  good_once one t [] ts e = refl
+  good_once one t (x ∷ l) ts e =
+      let all = l ++ t ∷ ts in
+      let g = each_head good x all e in
+      let h = each_within good l t ts (each_tail good x all e) in
+      let once = has_within (keyed S (S.key x)) l t ts (not-true (has (keyed S (S.key x)) all) (good_different S good_key good_coefficient x all g)) in
+      let other : M.same (mark x) (mark t) ≡ false =
+      by_test (M.same (mark x) (mark t))
+      (λ s. absurd (true≢false (sym (one (S.key t) (S.key x) (good_key_lem S good_key good_coefficient t ts h) (good_key_lem S good_key good_coefficient x all g) s) ∙ once)))
+      (λ s. s) in
+      rw (other, good_once one t l ts (each_tail good x all e))
 
-module _ {K N R B : Type 0} {S : Terms K N} (W : ValidSets S R) (M : Fingerprints S B) where
-  abbrev fine : S.Term → List S.Term → Bool
-  fine = good_term S W.good_key W.good_coefficient
+  -- ---- one step of the walk
 
-  pub record Fingerprinted (s : R) (read : ℕ → B) (i : ℕ) : Type 0 where
-    pub whole : length (W.sets.places s) ≡ most_terms
-    pub few : W.sets.count s ≤ most_terms
-    pub within : i ≤ W.sets.count s
-    pub judged : each fine (take i (W.sets.places s)) ≡ true
-    pub stored : (j : ℕ) → j < i → read j ≡ M.fingerprint (S.key (get_or (W.sets.places s) j W.sets.blank))
+  -- the term at i, which code reads as `get_or l i d`
+  module _ {l : List S.Term} {m : List B} {i : ℕ} (d : S.Term) (c : Fingerprinted good mark l m i) (h : i < length l) where
+    abbrev this : S.Term
+    this = get_or l i d
 
-  module _ {s : R} {read : ℕ → B} where
-    pub fingerprinted_none : length (W.sets.places s) ≡ most_terms → W.sets.count s ≤ most_terms → Fingerprinted s read 0
-    unfolding each
-    fingerprinted_none whole few = record { whole = whole; few = few; within = omega arith; judged = refl; stored = λ j h. absurd (omega arith) }
+    -- it fails alone
+    pub fingerprinted_failed : alone this ≡ false → each good l ≡ false
+    fingerprinted_failed a = by_test (each good l) (λ e. absurd (true≢false (sym (good_alone this (drop (i + 1) l) (each_at good l i d h e)) ∙ a))) (λ e. e)
 
-    -- the term at i, which code reads as `get_or s.terms i d`
-    module _ {i : ℕ} (d : S.Term) (c : Fingerprinted s read i) (h : i < W.sets.count s) where
-      abbrev this : S.Term
-      this = get_or (W.sets.places s) i d
-
-      -- it fails alone
-      pub fingerprinted_failed : alone S W.good_key W.good_coefficient this ≡ false → false ≡ each fine (take (W.sets.count s) (W.sets.places s))
-      fingerprinted_failed a =
-          let l = take (W.sets.count s) (W.sets.places s) in
-          let long = length-take-le (W.sets.count s) (W.sets.places s) (omega (arith, c.whole, c.few)) in
-          let is = get_or-take (W.sets.count s) (W.sets.places s) i d h in
-          sym (by_test (each fine l)
-          (λ e. absurd (true≢false (sym (good_alone S W.good_key W.good_coefficient (get_or l i d) (drop (i + 1) l) (each_at fine l i d (omega arith) e))
-          ∙ ap (alone S W.good_key W.good_coefficient) is ∙ a)))
-          (λ e. e))
-
-      -- it passes, and none of the terms before it has its fingerprint, which is stored at i
-      pub fingerprinted_more : {x : B} (new : ℕ → B) → alone S W.good_key W.good_coefficient this ≡ true → x ≡ M.fingerprint (S.key this)
-          → every i (λ j. not (M.same (read j) x)) ≡ true → ((j : ℕ) → j < i → new j ≡ read j) → new i ≡ x → Fingerprinted s new (i + 1)
-      fingerprinted_more {x} new a e fresh before last =
-          record {
-            whole = c.whole;
-            few = c.few;
-            within = omega arith;
-            judged =
-                rw (add-one i, take-suc (W.sets.places s) i d inside)
-                (good_last S W.good_key W.good_coefficient W.sets.blank this (take i (W.sets.places s)) a (λ j l. other j (omega (arith, long))) c.judged);
-            stored = stored;
-          }
-        where
-          inside : i < length (W.sets.places s)
-          inside = omega (arith, c.whole, c.few)
-
-          long : length (take i (W.sets.places s)) ≡ i
-          long = length-take-le i (W.sets.places s) (omega (arith, inside))
-
-          -- the key of an earlier term is another one
-          other : (j : ℕ) → j < i → S.same (S.key this) (S.key (get_or (take i (W.sets.places s)) j W.sets.blank)) ≡ false
-          other j l =
-              let y = S.key (get_or (W.sets.places s) j W.sets.blank) in
-              let p : M.fingerprint y ≡ read j = sym (c.stored j l) in
-              let q : M.fingerprint (S.key this) ≡ x = sym e in
-              ap (λ (t : S.Term). S.same (S.key this) (S.key t)) (get_or-take i (W.sets.places s) j W.sets.blank l)
-              ∙ by_test (S.same (S.key this) y)
-              (λ t. absurd (true≢false (sym (M.shared (S.key this) y t) ∙ (λ k. M.same (p k) (q k)) ∙ not-true (M.same (read j) x) (every-at i (λ j. not (M.same (read j) x)) fresh j l))))
-              (λ t. t)
-
-          stored : (j : ℕ) → j < i + 1 → new j ≡ M.fingerprint (S.key (get_or (W.sets.places s) j W.sets.blank))
-          stored j l =
-              let b : j ≤ i = omega arith in
-              ⊎_elim
-              (λ q. ap new q ∙ last ∙ e ∙ ap (λ (t : S.Term). M.fingerprint (S.key t)) (get_d_any (W.sets.places s) i d W.sets.blank inside ∙ ap (λ (k : ℕ). get_or (W.sets.places s) k W.sets.blank) (sym q)))
-              (λ q. before j q ∙ c.stored j q)
-              (eq-or-lt_of_le b)
+    module _ {x : B} (is : x ≡ mark this) where
+      seen_is : has (λ b. M.same b x) m ≡ has (λ b. M.same b (mark this)) (map mark (take i l))
+      seen_is = λ j. has (λ b. M.same b (is j)) (c.stored j)
 
       -- its fingerprint repeats, where good keys with one fingerprint are the same
-      pub fingerprinted_again : {x : B} → ((k m : K) → W.good_key k ≡ true → W.good_key m ≡ true → M.same (M.fingerprint m) (M.fingerprint k) ≡ true → S.same k m ≡ true)
-          → x ≡ M.fingerprint (S.key this) → every i (λ j. not (M.same (read j) x)) ≡ false → false ≡ each fine (take (W.sets.count s) (W.sets.places s))
-      fingerprinted_again {x} one e seen =
-          sym (by_test (each fine l)
-          (λ g. absurd (true≢false (sym (every_intro i (λ j. not (M.same (read j) x)) (λ j b. ap not (other g j b))) ∙ seen)))
-          (λ g. g))
-        where
-          l : List S.Term
-          l = take (W.sets.count s) (W.sets.places s)
+      pub fingerprinted_again : ((k n : K) → good_key k ≡ true → good_key n ≡ true → M.same (M.fingerprint n) (M.fingerprint k) ≡ true → S.same k n ≡ true)
+          → has (λ b. M.same b x) m ≡ true → each good l ≡ false
+      fingerprinted_again one seen =
+          let parts : take i l ++ this ∷ drop (i + 1) l ≡ l = rw (add-one i, ← drop-cons l i d h, take-append-drop i l) in
+          by_test (each good l)
+          (λ e. absurd (true≢false (sym seen ∙ seen_is ∙ good_once one this (take i l) (drop (i + 1) l) (ap (each good) parts ∙ e))))
+          (λ e. e)
 
-          long : length l ≡ W.sets.count s
-          long = length-take-le (W.sets.count s) (W.sets.places s) (omega (arith, c.whole, c.few))
-
-          -- if each were good, an earlier one would have another fingerprint
-          other : each fine l ≡ true → (j : ℕ) → j < i → M.same (read j) x ≡ false
-          other g j b =
-              let y = get_or l j W.sets.blank in
-              let z = get_or l i d in
-              let later = drop (j + 1) l in
-              let k = i - (j + 1) in
-              let fine-y : fine y later ≡ true = each_at fine l j W.sets.blank (omega (arith, long)) g in
-              let fine-z : fine z (drop (i + 1) l) ≡ true = each_at fine l i d (omega (arith, long)) g in
-              let there : get_or later k d ≡ z = get_or-drop (j + 1) l k d ∙ ap (λ (m : ℕ). get_or l m d) (omega arith) in
-              let once : S.same (S.key z) (S.key y) ≡ false =
-              ap (keyed S (S.key y)) (sym there)
-              ∙ none_at (keyed S (S.key y)) later k d (omega (arith, long, length-drop (j + 1) l)) (not-true (has (keyed S (S.key y)) later) (good_different S W.good_key W.good_coefficient y later fine-y)) in
-              let p : M.fingerprint (S.key y) ≡ read j = ap (λ (t : S.Term). M.fingerprint (S.key t)) (get_or-take (W.sets.count s) (W.sets.places s) j W.sets.blank (omega arith)) ∙ sym (c.stored j b) in
-              let q : M.fingerprint (S.key z) ≡ x = ap (λ (t : S.Term). M.fingerprint (S.key t)) (get_or-take (W.sets.count s) (W.sets.places s) i d h) ∙ sym e in
-              by_test (M.same (read j) x)
-              (λ t. absurd (true≢false (sym (one (S.key z) (S.key y) (good_key_lem S W.good_key W.good_coefficient z (drop (i + 1) l) fine-z) (good_key_lem S W.good_key W.good_coefficient y later fine-y) ((λ v. M.same (p v) (q v)) ∙ t)) ∙ once)))
-              (λ t. t)
-
-    pub fingerprinted_done : {i : ℕ} → Fingerprinted s read i → W.sets.count s ≤ i → true ≡ each fine (take (W.sets.count s) (W.sets.places s))
-    fingerprinted_done {i} c h = sym (subst (λ (k : ℕ). each fine (take k (W.sets.places s)) ≡ true) (le_antisymm c.within h) c.judged)
+      -- it passes, and its fingerprint is new
+      pub fingerprinted_more : {n : List B} → alone this ≡ true → has (λ b. M.same b x) m ≡ false → n ≡ m ++ x ∷ [] → Fingerprinted good mark l n (i + 1)
+      fingerprinted_more a fresh last =
+          record {
+            within = omega arith;
+            judged = rw (add-one i, take-suc l i d h) (good_last this (take i l) a (sym seen_is ∙ fresh) c.judged);
+            stored = last ∙ (λ j. c.stored j ++ is j ∷ []) ∙ sym (map_more mark l i d h);
+          }

@@ -5,9 +5,9 @@ use Prim.Native.Nat.{ℕ, ◌-◌, ◌≤◌}
 use native.Mathlib.Omega.{arith}
 use mathlib.Core.Path.{◌≡◌, refl, ap, ◌∙◌}
 use mathlib.Core.Bool.{Bool, true, ◌&&◌}
-use mathlib.Core.List.{List}
+use mathlib.Core.List.{List, [], ◌∷◌}
 use lib.Dec.{leb, eqb}
-use lib.ListN.{length, take, drop, replicate, length-append, length-replicate}
+use lib.ListN.{length, take, drop, replicate, length-drop, length-append, length-replicate}
 use lib.Seq.{drop_at}
 use borrow.Author.Tests.{eq-eqb, eqb-true, le-leb, leb-true}
 use Rattle.letters.proofs.TestLaws.{and_true, and_left, and_right}
@@ -15,9 +15,23 @@ use Rattle.terms.specs.Keyed.{padded, each}
 use Rattle.terms.specs.Setting.{most_terms}
 use Rattle.terms.specs.Places.{valid_places}
 use Rattle.terms.proofs.ClosingLaws.{padded-take}
-use Rattle.terms.proofs.SettingLaws.{Held}
+use Rattle.terms.proofs.SettingLaws.{Held, held_past}
 use Rattle.terms.proofs.EachLaws.{each-run}
-use Rattle.terms.proofs.PlaceLaws.{held_blanks}
+use Rattle.terms.proofs.KeyedLaws.{each_head, each_tail}
+
+-- places that pass a test for blanks, which only the blank passes
+module _ {A : Type 0} (test : A → Bool) (blank : A) (only : (x : A) → test x ≡ true → x ≡ blank) where
+  blanks_only : (l : List A) → each (λ x xs. test x) l ≡ true → l ≡ replicate (length l) blank
+  blanks_only [] e = refl
+  blanks_only (x ∷ l) e =
+      let h = only x (each_head (λ x xs. test x) x l e) in
+      let r = blanks_only l (each_tail (λ x xs. test x) x l e) in
+      λ j. h j ∷ r j
+
+  held_blanks : (n : ℕ) (t : List A) → length t ≡ most_terms → n ≤ most_terms → each (λ x xs. test x) (drop n t) ≡ true → Held blank n t
+  held_blanks n t whole few past =
+      let m : length (drop n t) ≡ most_terms - n = length-drop n t ∙ ap (λ (k : ℕ). k - n) whole in
+      held_past blank n t whole few (blanks_only (drop n t) past ∙ ap (λ (k : ℕ). replicate k blank) m)
 
 -- what valid places have
 pub record Valid {A : Type 0} (test : A → List A → Bool) (is_blank : A → Bool) (n : ℕ) (t : List A) : Type 0 where

@@ -4,10 +4,9 @@
 use Prim.Native.Nat.{◌≤◌}
 use native.Mathlib.Omega.{arith}
 use mathlib.Core.Path.{◌≡◌, refl, sym, ap, ◌∙◌}
-use mathlib.Core.Bool.{Bool, true, false, not, ◌&&◌}
+use mathlib.Core.Bool.{Bool, true, false, not}
 use mathlib.Core.List.{List, []}
-use lib.Dec.{leb}
-use lib.ListN.{length, drop}
+use lib.ListN.{length}
 use borrow.Author.Tests.{not-true}
 use Rattle.refusal.specs.Refusals.{Said, gives}
 use Rattle.terms.specs.Keyed.{each}
@@ -60,11 +59,6 @@ module _ {K N R : Type 0} {S : Terms K N} (W : ValidSets S R) where
 
     pub valid_by : Valid fine W.is_blank (W.sets.count s) (W.sets.places s) → W.valid s ≡ true
     valid_by v = W.means s ∙ places.valid_by fine W.is_blank (W.sets.count s) (W.sets.places s) v
-
-    -- every value of the struct passes the first test: the others decide
-    pub valid_is : length (W.sets.places s) ≡ most_terms
-        → W.valid s ≡ (leb (W.sets.count s) most_terms && (each fine (terms s) && each (λ t ts. W.is_blank t) (drop (W.sets.count s) (W.sets.places s))))
-    valid_is whole = W.means s ∙ places.valid_is fine W.is_blank (W.sets.count s) (W.sets.places s) whole
 
   module _ (s : R) (e : W.valid s ≡ true) where
     pub valid-count : W.sets.count s ≤ most_terms

@@ -5,5 +5,3 @@ pub mod Places
 pub mod Chains
 pub mod Gaussian
 pub mod Entries
-pub mod Marks
-pub mod Striking

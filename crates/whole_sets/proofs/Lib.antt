@@ -1,1 +1,1 @@
-pub mod JudgingLaws
+pub mod PartLaws

@@ -1,19 +1,18 @@
 -- What a row call counts is at most the places of its first buffer.
 -- Assumes nothing.
-use Prim.Native.Nat.{ℕ, ◌≤◌, zero-le}
-use mathlib.Core.Path.{◌≡◌, refl}
-use mathlib.Core.Bool.{Bool, true, false, ◌&&◌, cond}
-use mathlib.Core.List.{List, []}
+use Rattle.std.proofs.Common.{◌≡◌, refl, ℕ, ◌≤◌, Bool, true, false, ◌&&◌, cond, List, [], length, Result, Ok, Err}
+use Prim.Native.Nat.{zero-le}
 use lib.Dec.{leb}
-use lib.ListN.{length}
 use borrow.Author.Tests.{leb-true}
+use Rattle.std.specs.Result.{result_unwrap_or}
 use Rattle.refusal.specs.Refusals.{Said, gives, refuses}
+use Rattle.refusal.specs.declared.Refusal.{Refusal}
 use Rattle.letters.proofs.TestLaws.{and_left}
-use Rattle.rows.specs.Buffers.{TwoParts, room_for}
+use Rattle.rows.specs.Buffers.{TwoParts, room_for, said_delivery}
 use Rattle.rows.specs.Calls.{count_of, RowCallIn}
 
 -- the count, 0 beside a refusal
-abbrev pub counted : Said ℕ → ℕ
+abbrev counted : Said ℕ → ℕ
 counted (gives n) = n
 counted (refuses k s) = 0
 
@@ -26,5 +25,9 @@ count_fits (gives l) a b c = go (room_for (length l) a b c) refl
     go false e = zero-le
 count_fits (refuses k s) a b c = zero-le
 
-pub call_fits : {N X : Type 0} {P : TwoParts N X} {x : Said (List (ℕ × N))} {r : Said ℕ} {a a' : List ℕ} {b b' c c' : List X} → RowCallIn P x r a a' b b' c c' → counted r ≤ length a
-call_fits {N} {X} {P} {x} {r} {a} {a'} {b} {b'} {c} call = rw call.answer (count_fits x a b c)
+is_counted : (r : Result ℕ Refusal) → result_unwrap_or r 0 ≡ counted (said_delivery r)
+is_counted (Ok n) = refl
+is_counted (Err why) = refl
+
+pub call_fits : {N X : Type 0} {P : TwoParts N X} {x : Said (List (ℕ × N))} (r : Result ℕ Refusal) {a a' : List ℕ} {b b' c c' : List X} → RowCallIn P x (said_delivery r) a a' b b' c c' → result_unwrap_or r 0 ≤ length a
+call_fits {N} {X} {P} {x} r {a} {a'} {b} {b'} {c} call = rw (is_counted r, call.answer) (count_fits x a b c)

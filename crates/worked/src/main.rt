@@ -9,7 +9,7 @@ use std::io;
 
 fn main(rt: HostRuntime) -> io::Result<()> {
     match system::worked() {
-        Ok(s) => report::print_rows(&rt, s),
+        Ok(s) => report::print_rows(&rt, &s),
         Err(why) => println!(rt; "refused under number {}", why.number()),
     }
 }

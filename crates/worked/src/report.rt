@@ -3,7 +3,7 @@ ghost use Rattle.std.specs.Prelude.{◌≤◌};
 ghost use Rattle.rows.specs.Buffers.{most_entries};
 
 use printing::Places;
-use spins::{Delivery, PauliLindbladOpenSystem, exact_row};
+use spins::{PauliLindbladOpenSystem, exact_row};
 use std::io;
 
 const SPINS: u32 = 1;
@@ -11,17 +11,15 @@ const SPINS: u32 = 1;
 const ROWS: u64 = 4;
 
 // An exact row into lent places; how many entries it has, none where it is refused.
-fn row_into(s: PauliLindbladOpenSystem, row: u64, lent: &mut Places) -> usize
+fn row_into(s: &PauliLindbladOpenSystem, row: u64, lent: &mut Places) -> usize
     ensures { result ≤ most_entries }
 {
-    match exact_row(s, SPINS, row, &mut lent.columns, &mut lent.re, &mut lent.im) {
-        Delivery::Count(n) => n,
-        Delivery::Refused(_) => 0,
-    }
+    let answer = exact_row(s, SPINS, row, &mut lent.columns, &mut lent.re, &mut lent.im);
+    answer.unwrap_or(0)
 }
 
 // How many entries all rows have.
-fn entries_of(s: PauliLindbladOpenSystem) -> usize {
+fn entries_of(s: &PauliLindbladOpenSystem) -> usize {
     let mut lent = Places::new();
     let mut entries = 0;
     for row in 0..ROWS {
@@ -31,7 +29,7 @@ fn entries_of(s: PauliLindbladOpenSystem) -> usize {
 }
 
 // A header, and then the rows, each by ascending column.
-pub(crate) fn print_rows(rt: &impl Print, s: PauliLindbladOpenSystem) -> io::Result<()> {
+pub(crate) fn print_rows(rt: &impl Print, s: &PauliLindbladOpenSystem) -> io::Result<()> {
     println!(rt; "spins {SPINS} entries {}", entries_of(s))?;
     let mut lent = Places::new();
     for row in 0..ROWS {

@@ -12,16 +12,19 @@ const Z: u8 = 3;
 // 3 Z0.
 fn hamiltonian() -> Result<PauliHamiltonian, Refusal> {
     let z0 = PauliProduct::new().set_pauli(0, Z)?;
-    Ok(PauliHamiltonian::new().set(z0, 3.0).set)
+    let mut h = PauliHamiltonian::new();
+    h.set(z0, 3.0)?;
+    Ok(h)
 }
 
 // (X0, X0), 2.
 fn noise() -> Result<PauliLindbladNoiseOperator, Refusal> {
     let x0 = DecoherenceProduct::new().set_pauli(0, X)?;
-    let rate = Complex { re: 2.0, im: 0.0 };
-    Ok(PauliLindbladNoiseOperator::new().set(x0, x0, rate).operator)
+    let mut noise = PauliLindbladNoiseOperator::new();
+    noise.set(x0, x0, Complex { re: 2.0, im: 0.0 })?;
+    Ok(noise)
 }
 
 pub(crate) fn worked() -> Result<PauliLindbladOpenSystem, Refusal> {
-    Ok(PauliLindbladOpenSystem::group(hamiltonian()?, noise()?).system)
+    PauliLindbladOpenSystem::group(hamiltonian()?, noise()?)
 }

@@ -1,70 +1,62 @@
--- `full_operators::add_full`: the refusals in their order; then the pairs, as a chain answers them.
--- Assumes nothing.
-use mathlib.Core.Path.{sym, ◌∙◌}
-use borrow.Author.Tests.{eq-eqb, ne_eqb}
-use Rattle.term_sets.proofs.ValidLaws as operator-laws
-use Rattle.full_operators.specs.FullAnswers.{add_full_operators}
-use Rattle.noise_sets.proofs.ValidLaws.{valid_own}
+-- `add_full`: what is refused at first; then a row for each left term, in it the steps of each right one: none, or one that finds no room or is taken.
+use Rattle.std.proofs.Common.{◌∙◌, ap, sym}
+use Rattle.std.proofs.lemmas.Result.{err_from_is_err_and}
+use Rattle.std.specs.Prelude.{Ok, Err}
+use Rattle.complex.specs.Complex.{in_range}
+use Rattle.complex.specs.Coefficients.{complexes}
+use Rattle.terms.specs.Keyed.{concat_map}
+use Rattle.terms.specs.Setting.{add_all}
+use Rattle.terms.proofs.AnswerLaws.{ended_refused}
+use Rattle.term_sets.specs.Complexes as operators
+use Rattle.term_sets.specs.Keys.{pair_keys}
+use Rattle.term_writing.proofs.ChainLaws.{remaining_all, remaining_passed, remaining_more, remaining_full, remaining_none, remaining_after, row_begins, end_told}
+use Rattle.noise_sets.specs.Pairs.{pair_terms, held_by, filled}
+use Rattle.noise_sets.specs.Answers.{ended}
+use Rattle.full_operators.proofs.PairLaws.{wanted, pair_passed, pair_given, pair_row, pair_rows, accepted}
 use Rattle.full_operators.proofs.add_full.Goals as goal
 
-pub returns-then-not-is_valid : goal.returns-then-not-is_valid
-unfolding add_full_operators
-returns-then-not-is_valid c =
-    let bad = sym c.is_valid.ensures ∙ c.if-not-is_valid.true in
-    rw bad
+pub loop-x-init : goal.loop-x-init
+loop-x-init c =
+    let s = c.args.s.now in
+    let l = c.args.left.now.terms in
+    let r = c.args.right.now.terms in
+    remaining_all pair_keys complexes (wanted s l r c.args.value) (pair_row c.args.value (operators.held_by r)) _ (held_by s) _
+    (rw c.held-x-items.ensures (ap (λ xs. add_all pair_terms xs (held_by s)) (pair_rows c.args.value (operators.held_by l) (operators.held_by r))))
+    c.to-sum.ensures
 
-pub returns-then-not-is_valid-2 : goal.returns-then-not-is_valid-2
-unfolding add_full_operators
-returns-then-not-is_valid-2 c =
-    let set_valid = sym c.is_valid.ensures ∙ c.if-not-is_valid.false in
-    let bad = sym c.is_valid-2.ensures ∙ c.if-not-is_valid-2.true in
-    rw (set_valid, bad)
+pub loop-y-init : goal.loop-y-init
+loop-y-init c = row_begins pair_keys complexes c.loop-x.invariant _ c.loop-x-test.true _ _ (ap (concat_map _) (sym c.held-y-items.ensures))
 
-pub returns-then-not-is_valid-3 : goal.returns-then-not-is_valid-3
-unfolding add_full_operators
-returns-then-not-is_valid-3 c =
-    let set_valid = sym c.is_valid.ensures ∙ c.if-not-is_valid.false in
-    let left_valid = sym c.is_valid-2.ensures ∙ c.if-not-is_valid-2.false in
-    let bad = sym c.is_valid-3.ensures ∙ c.if-not-is_valid-3.true in
-    rw (set_valid, left_valid, bad)
+pub loop-y-preserved-then-has_empty_side : goal.loop-y-preserved-then-has_empty_side
+loop-y-preserved-then-has_empty_side c = remaining_passed pair_keys complexes c.loop-y.invariant _ c.loop-y-test.true (pair_passed _ _ _ c.if-has_empty_side.ensures)
 
-pub returns-then-l-eq0 : goal.returns-then-l-eq0
-unfolding add_full_operators
-returns-then-l-eq0 c =
-    let set_valid = sym c.is_valid.ensures ∙ c.if-not-is_valid.false in
-    let left_valid = sym c.is_valid-2.ensures ∙ c.if-not-is_valid-2.false in
-    let right_valid = sym c.is_valid-3.ensures ∙ c.if-not-is_valid-3.false in
-    rw (set_valid, left_valid, right_valid, eq-eqb _ _ c.if-l-eq0.true)
+pub loop-y-preserved : goal.loop-y-preserved
+loop-y-preserved c =
+    remaining_more pair_keys complexes c.loop-y.invariant _ c.loop-y-test.true _ _
+    (pair_given _ _ _ c.if-has_empty_side.ensures _ _ _ c.conjugate.ensures c.product-rate.ensures c.product.ensures) c.in_ok-add.ensures
 
-pub returns-then-r-eq0 : goal.returns-then-r-eq0
-unfolding add_full_operators
-returns-then-r-eq0 c =
-    let set_valid = sym c.is_valid.ensures ∙ c.if-not-is_valid.false in
-    let left_valid = sym c.is_valid-2.ensures ∙ c.if-not-is_valid-2.false in
-    let right_valid = sym c.is_valid-3.ensures ∙ c.if-not-is_valid-3.false in
-    rw (set_valid, left_valid, right_valid, ne_eqb _ _ c.if-l-eq0.false, eq-eqb _ _ c.if-r-eq0.true)
+pub returns-in_err-add : goal.returns-in_err-add
+returns-in_err-add c =
+    let p = err_from_is_err_and c.from_residual.result c.from_residual.ensures.1 in
+    rw (p.1, p.2)
+    (ended_refused pair_terms in_range filled c.args.s.now
+    (remaining_full pair_keys complexes c.loop-y.invariant _ c.loop-y-test.true _ _
+    (pair_given _ _ _ c.if-has_empty_side.ensures _ _ _ c.conjugate.ensures c.product-rate.ensures c.product.ensures) c.in_err-add.ensures)
+    ∙ accepted _ _ _ _ c.if-not-is_valid.ensures c.if-not-is_valid-2.ensures c.if-not-is_valid-3.ensures c.if-left-eq0.false c.if-right-eq0.false c.if-not-in_range.ensures)
 
-pub returns-then-not-in_range : goal.returns-then-not-in_range
-unfolding add_full_operators
-returns-then-not-in_range c =
-    let set_valid = sym c.is_valid.ensures ∙ c.if-not-is_valid.false in
-    let left_valid = sym c.is_valid-2.ensures ∙ c.if-not-is_valid-2.false in
-    let right_valid = sym c.is_valid-3.ensures ∙ c.if-not-is_valid-3.false in
-    let bad = sym c.in_range.ensures ∙ c.if-not-in_range.true in
-    rw (set_valid, left_valid, right_valid, ne_eqb _ _ c.if-l-eq0.false, ne_eqb _ _ c.if-r-eq0.false, bad)
+pub loop-x-preserved : goal.loop-x-preserved
+loop-x-preserved c = remaining_after pair_keys complexes _ c.loop-y.invariant c.loop-y-test.false
 
-pub added_pairs-requires : goal.added_pairs-requires
-added_pairs-requires c =
-    let set_valid = sym c.is_valid.ensures ∙ c.if-not-is_valid.false in
-    let left_valid = sym c.is_valid-2.ensures ∙ c.if-not-is_valid-2.false in
-    let right_valid = sym c.is_valid-3.ensures ∙ c.if-not-is_valid-3.false in
-    (valid_own _ set_valid, (operator-laws.valid-count _ _ left_valid, operator-laws.valid-count _ _ right_valid))
+pub returns-in_err-s : goal.returns-in_err-s
+returns-in_err-s c =
+    let p = err_from_is_err_and c.from_residual-in_err-s.result c.from_residual-in_err-s.ensures.1 in
+    rw (p.1, p.2)
+    (end_told pair_keys complexes c.args.s.now _ (Err c.in_err-s.field-0.0) c.in_err-s.ensures
+    ∙ ap (ended c.args.s.now) (sym (remaining_none pair_keys complexes c.loop-x.invariant c.loop-x-test.false))
+    ∙ accepted _ _ _ _ c.if-not-is_valid.ensures c.if-not-is_valid-2.ensures c.if-not-is_valid-3.ensures c.if-left-eq0.false c.if-right-eq0.false c.if-not-in_range.ensures)
 
 pub returns : goal.returns
-unfolding add_full_operators
 returns c =
-    let set_valid = sym c.is_valid.ensures ∙ c.if-not-is_valid.false in
-    let left_valid = sym c.is_valid-2.ensures ∙ c.if-not-is_valid-2.false in
-    let right_valid = sym c.is_valid-3.ensures ∙ c.if-not-is_valid-3.false in
-    let value-in-range = sym c.in_range.ensures ∙ c.if-not-in_range.false in
-    rw (set_valid, left_valid, right_valid, ne_eqb _ _ c.if-l-eq0.false, ne_eqb _ _ c.if-r-eq0.false, value-in-range) c.added_pairs.ensures
+    end_told pair_keys complexes c.args.s.now _ (Ok c.in_ok-s.field-0) c.in_ok-s.ensures
+    ∙ ap (ended c.args.s.now) (sym (remaining_none pair_keys complexes c.loop-x.invariant c.loop-x-test.false))
+    ∙ accepted _ _ _ _ c.if-not-is_valid.ensures c.if-not-is_valid-2.ensures c.if-not-is_valid-3.ensures c.if-left-eq0.false c.if-right-eq0.false c.if-not-in_range.ensures

@@ -2,86 +2,94 @@
 -- no site is found, it is delivered.
 use mathlib.Core.Path.{◌≡◌, refl, sym, ap, ◌∙◌}
 use mathlib.Core.List.{[]}
-use borrow.Author.Tests.{not-true, not-false}
+use Rattle.complex.specs.PlusZero.{real_plus_zero, complex_plus_zero}
 use Rattle.refusal.specs.Refusals.{listed}
 use Rattle.rows.specs.Calls.{outside}
 use Rattle.rows.proofs.CallLaws.{call_spins, call_range, call_outside, call_row}
+use Rattle.term_sets.specs.KeyInstances.{item_laws, pair_laws}
+use Rattle.term_sets.specs.Complexes.{items_of}
 use Rattle.term_sets.proofs.SetLaws.{held-from}
-use Rattle.noise_sets.specs.Pairs.{held_by}
+use Rattle.term_sets.proofs.HandedLaws.{nothing_handed, handed_valid, handed_few, handed_terms}
+use Rattle.noise_sets.specs.Pairs.{held_by, sides_of}
 use Rattle.hamiltonians.specs.Reals.{hamiltonian_terms}
 use Rattle.outside_sites.specs.SystemItems.{system_items}
-use Rattle.open_rows.specs.OpenRows.{system_row_of}
+use Rattle.outside_sites.proofs.OutsideLaws.{outside_past}
 use Rattle.outside_sites.proofs.AcceptedLaws.{accepted, all_both, hamiltonian-valid, noise-valid}
 use Rattle.row_entries.proofs.EntryLaws.{square_few}
-use Rattle.open_rows.proofs.HandedLaws.{real_judged, real_few, real_given, pairs_judged, pairs-few, pairs-given}
+use Rattle.open_rows.specs.OpenRows.{system_row_of}
+use Rattle.open_rows.proofs.HandedLaws.{hamiltonian_given}
 use Rattle.open_rows.proofs.SystemRowLaws.{system_malformed, noise_malformed, system_valid}
 use Rattle.open_rows.proofs.row.Goals as goal
-use Rattle.open_rows.proofs.row.Goals.{then-not-system_fits+in_default, else-not-system_fits}
+use Rattle.open_rows.proofs.row.Goals.{then-not-terms_fit+in_default-outside_site, else-not-terms_fit+else-not-pairs_fit}
 
-pub returns-then-not-h : goal.returns-then-not-h
-returns-then-not-h c = system_malformed c.args.s _ _ (sym (real_judged _ c.masked-h.ensures) ∙ not-true _ c.if-not-h.true)
+pub returns-in_default : goal.returns-in_default
+returns-in_default c = system_malformed c.args.s.now _ _ (nothing_handed _ _ _ _ (sym c.in_default.is ∙ c.masked.ensures))
 
-pub returns-then-not-n : goal.returns-then-not-n
-returns-then-not-n c =
-    let v = sym (real_judged _ c.masked-h.ensures) ∙ not-false _ c.if-not-h.false in
-    noise_malformed c.args.s _ _ v (sym (pairs_judged _ c.masked-n.ensures) ∙ not-true _ c.if-not-n.true)
+pub returns-in_default-masked : goal.returns-in_default-masked
+returns-in_default-masked c =
+    noise_malformed c.args.s.now _ _ (handed_valid _ _ _ _ (sym c.in-Some.is ∙ c.masked.ensures)) (nothing_handed _ _ _ _ (sym c.in_default-masked.is ∙ c.masked-2.ensures))
 
 pub returns-then-spins-gt-MOST_SPINS : goal.returns-then-spins-gt-MOST_SPINS
 unfolding system_row_of
 returns-then-spins-gt-MOST_SPINS c =
-    let v = sym (real_judged _ c.masked-h.ensures) ∙ not-false _ c.if-not-h.false in
-    let w = sym (pairs_judged _ c.masked-n.ensures) ∙ not-false _ c.if-not-n.false in
-    system_valid c.args.s _ _ v w _ refl (call_spins _ _ _ _ _ c.if-spins-gt-MOST_SPINS.true)
+    let v = handed_valid _ _ _ _ (sym c.in-Some.is ∙ c.masked.ensures) in
+    let w = handed_valid _ _ _ _ (sym c.in-Some-masked.is ∙ c.masked-2.ensures) in
+    system_valid c.args.s.now _ _ v w _ refl (call_spins _ _ _ _ _ c.if-spins-gt-MOST_SPINS.true)
 
 pub returns-then-superoperator_size-row : goal.returns-then-superoperator_size-row
 unfolding system_row_of
 returns-then-superoperator_size-row c =
-    let v = sym (real_judged _ c.masked-h.ensures) ∙ not-false _ c.if-not-h.false in
-    let w = sym (pairs_judged _ c.masked-n.ensures) ∙ not-false _ c.if-not-n.false in
-    system_valid c.args.s _ _ v w _ refl (call_range _ _ _ _ _ c.if-spins-gt-MOST_SPINS.false (square_few _ c.if-spins-gt-MOST_SPINS.false c.superoperator_size.ensures) c.if-superoperator_size-row.true)
+    let v = handed_valid _ _ _ _ (sym c.in-Some.is ∙ c.masked.ensures) in
+    let w = handed_valid _ _ _ _ (sym c.in-Some-masked.is ∙ c.masked-2.ensures) in
+    let few = c.if-spins-gt-MOST_SPINS.false in
+    system_valid c.args.s.now _ _ v w _ refl (call_range _ _ _ _ _ few (square_few _ few c.superoperator_size.ensures) c.if-superoperator_size-row.true)
 
-pub system_fits-requires : goal.system_fits-requires
-system_fits-requires c =
-    let h = c.masked-h.ensures in
-    let n = c.masked-n.ensures in
-    (real_few _ h (sym (real_judged _ h) ∙ not-false _ c.if-not-h.false), pairs-few _ n (sym (pairs_judged _ n) ∙ not-false _ c.if-not-n.false), c.if-spins-gt-MOST_SPINS.false)
+pub terms_fit-requires : goal.terms_fit-requires
+terms_fit-requires c = (handed_few _ _ _ _ (sym c.in-Some.is ∙ c.masked.ensures) item_laws real_plus_zero, c.if-spins-gt-MOST_SPINS.false)
 
-pub returns-in-Some : goal.returns-in-Some
+pub pairs_fit-requires : goal.pairs_fit-requires
+pairs_fit-requires c = (handed_few _ _ _ _ (sym c.in-Some-masked.is ∙ c.masked-2.ensures) pair_laws complex_plus_zero, c.if-spins-gt-MOST_SPINS.false)
+
+pub returns-in-Some-outside_site : goal.returns-in-Some-outside_site
 unfolding system_row_of
-returns-in-Some c =
-    let v = sym (real_judged _ c.masked-h.ensures) ∙ not-false _ c.if-not-h.false in
-    let w = sym (pairs_judged _ c.masked-n.ensures) ∙ not-false _ c.if-not-n.false in
-    let site = ap listed (sym c.in-Some.is) ∙ c.outside_site.ensures in
-    system_valid c.args.s _ _ v w _ (held-from _ _ c.complex_terms.ensures)
-    (call_outside _ _ _ _ _ c.if-spins-gt-MOST_SPINS.false (square_few _ c.if-spins-gt-MOST_SPINS.false c.superoperator_size.ensures) c.if-superoperator_size-row.false site)
+returns-in-Some-outside_site c =
+    let v = handed_valid _ _ _ _ (sym c.in-Some.is ∙ c.masked.ensures) in
+    let w = handed_valid _ _ _ _ (sym c.in-Some-masked.is ∙ c.masked-2.ensures) in
+    let few = c.if-spins-gt-MOST_SPINS.false in
+    let site = ap listed (sym c.in-Some-outside_site.is) ∙ c.outside_site.ensures in
+    system_valid c.args.s.now _ _ v w _ (held-from _ _ c.complex_terms.ensures)
+    (call_outside _ _ _ _ _ few (square_few _ few c.superoperator_size.ensures) c.if-superoperator_size-row.false site)
 
 pub delivered-requires : goal.delivered-requires
-delivered-requires c =
-    let h = c.masked-h.ensures in
-    let n = c.masked-n.ensures in
-    (real_few _ h (sym (real_judged _ h) ∙ not-false _ c.if-not-h.false), pairs-few _ n (sym (pairs_judged _ n) ∙ not-false _ c.if-not-n.false), c.if-spins-gt-MOST_SPINS.false)
+delivered-requires c = (
+  handed_few _ _ _ _ (sym c.in-Some.is ∙ c.masked.ensures) item_laws real_plus_zero,
+  handed_few _ _ _ _ (sym c.in-Some-masked.is ∙ c.masked-2.ensures) pair_laws complex_plus_zero,
+  c.if-spins-gt-MOST_SPINS.false,
+)
 
 pub returns : goal.returns
 unfolding system_row_of
 returns c =
-    let h = c.masked-h.ensures in
-    let n = c.masked-n.ensures in
-    let v = sym (real_judged _ h) ∙ not-false _ c.if-not-h.false in
-    let w = sym (pairs_judged _ n) ∙ not-false _ c.if-not-n.false in
-    let t = hamiltonian_terms c.args.s.system in
-    let l = held_by c.args.s.noise.set in
-    let p = real_given _ h v in
-    let q = pairs-given _ n w in
+    let d = sym c.in-Some.is ∙ c.masked.ensures in
+    let e = sym c.in-Some-masked.is ∙ c.masked-2.ensures in
+    let v = handed_valid _ _ _ _ d in
+    let w = handed_valid _ _ _ _ e in
+    let t = hamiltonian_terms c.args.s.now.system in
+    let l = held_by c.args.s.now.noise.set in
+    let p = hamiltonian_given _ d in
+    let q = handed_terms _ _ _ _ e in
     let few = c.if-spins-gt-MOST_SPINS.false in
     let size = square_few _ few c.superoperator_size.ensures in
     let none : [] ≡ outside c.args.spins (system_items t l) =
-    elim c.if-not-system_fits.branch [
-      | then-not-system_fits+in_default z ↦
-          ap listed (sym z.in_default.is) ∙ z.outside_site.ensures ∙ ap (λ u. outside c.args.spins (system_items u l)) (held-from _ _ z.complex_terms.ensures)
-      | else-not-system_fits z ↦
-          sym (c.system_fits.ensures z.if-not-system_fits.false t l (hamiltonian-valid _ v) (noise-valid _ w) p.count p.products q.count q.left_products q.right_products)
+    elim c.if-not-terms_fit.branch [
+      | then-not-terms_fit+in_default-outside_site z ↦
+          ap listed (sym z.in_default-outside_site.is) ∙ z.outside_site.ensures ∙ ap (λ u. outside c.args.spins (system_items u l)) (held-from _ _ z.complex_terms.ensures)
+      | else-not-terms_fit+else-not-pairs_fit z ↦
+          sym
+          (outside_past c.args.spins (items_of t) (sides_of l) (c.terms_fit.ensures z.if-not-terms_fit.false t (hamiltonian-valid _ v) p)
+          ∙ z.pairs_fit.ensures z.if-not-pairs_fit.false l (noise-valid _ w) q)
     ]
     in
-    system_valid c.args.s _ _ v w _ refl
+    system_valid c.args.s.now _ _ v w _ refl
     (call_row _ _ _ _ _ few size c.if-superoperator_size-row.false none
     (c.delivered.ensures t l p q (accepted _ (all_both _ _ (hamiltonian-valid _ v) (noise-valid _ w)) few size c.if-superoperator_size-row.false none)))

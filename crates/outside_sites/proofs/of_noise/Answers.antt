@@ -1,38 +1,27 @@
--- The loop's invariant: no term before the place i has a site at `spins` or above on a side (`Looked`).
-use mathlib.Core.Path.{◌≡◌}
-use lib.ListN.{length}
-use native.Mathlib.Omega.{arith}
-use Rattle.outside_sites.proofs.OutsideLaws.{looked_none, left_found, right_found, sides_more, sides-done}
+-- The first term with a site at `spins` or above ends the walk (`looked_found`); of its sides the left one comes first (`outside_or`).
+use mathlib.Core.Path.{sym, ap, ◌∙◌}
+use Rattle.refusal.specs.Refusals.{listed}
+use Rattle.rows.specs.Calls.{outside}
+use Rattle.noise_sets.specs.Pairs.{sides, sides_of}
+use Rattle.outside_sites.proofs.OutsideLaws.{outside_or, looked_found, looked_more, looked_done}
 use Rattle.outside_sites.proofs.of_noise.Goals as goal
 
-pub loop-i-init : goal.loop-i-init
-loop-i-init c =
-    let whole : length c.args.s.terms ≡ 64 = omega arith in
-    looked_none whole c.held_count-n.ensures
+pub returns-then-is_some : goal.returns-then-is_some
+unfolding sides_of
+returns-then-is_some c =
+    let n = c.args.spins in
+    let site = ap listed c.or-site.ensures ∙ outside_or n _ _ c.of_product.result c.of_product-in-loop-t.result c.of_product.ensures c.of_product-in-loop-t.ensures in
+    looked_found sides n c.held-t-items.result.now c.loop-t.t-index c.loop-t.invariant _ c.or-site.result c.loop-t-test.true site (sym c.is_some.ensures ∙ c.if-is_some.true)
+    ∙ ap (λ l. outside n (sides_of l)) c.held-t-items.ensures
 
-pub offset_bounds-s-i : goal.offset_bounds-s-i
-offset_bounds-s-i c = omega arith
-
-pub bounds-s-i : goal.bounds-s-i
-bounds-s-i c = omega arith
-
-pub returns-then-spins-left : goal.returns-then-spins-left
-returns-then-spins-left c =
-    left_found c.loop-i.invariant _ c.loop-i-test.true c.reach-left.ensures c.if-spins-left.true
-
-pub returns-then-spins-right : goal.returns-then-spins-right
-returns-then-spins-right c =
-    right_found c.loop-i.invariant _ c.loop-i-test.true c.reach-left.ensures c.if-spins-left.false c.reach-right.ensures c.if-spins-right.true
-
-pub overflow_add-i : goal.overflow_add-i
-overflow_add-i c = omega arith
-
-pub loop-i-smaller : goal.loop-i-smaller
-loop-i-smaller c = omega arith
-
-pub loop-i-preserved : goal.loop-i-preserved
-loop-i-preserved c =
-    sides_more c.loop-i.invariant _ c.loop-i-test.true c.reach-left.ensures c.if-spins-left.false c.reach-right.ensures c.if-spins-right.false
+pub loop-t-preserved : goal.loop-t-preserved
+loop-t-preserved c =
+    let n = c.args.spins in
+    let site = ap listed c.or-site.ensures ∙ outside_or n _ _ c.of_product.result c.of_product-in-loop-t.result c.of_product.ensures c.of_product-in-loop-t.ensures in
+    looked_more sides n c.held-t-items.result.now c.loop-t.t-index c.loop-t.invariant _ c.or-site.result c.loop-t-test.true site (sym c.is_some.ensures ∙ c.if-is_some.false)
 
 pub returns : goal.returns
-returns c = sides-done c.loop-i.invariant c.loop-i-test.false
+unfolding sides_of
+returns c =
+    looked_done sides c.args.spins c.held-t-items.result.now c.loop-t.t-index c.loop-t.invariant c.loop-t-test.false
+    ∙ ap (λ l. outside c.args.spins (sides_of l)) c.held-t-items.ensures

@@ -1,34 +1,21 @@
--- The loop's invariant: no term before the place i has a site at `spins` or above (`Looked`).
-use mathlib.Core.Path.{◌≡◌}
-use lib.ListN.{length}
-use native.Mathlib.Omega.{arith}
-use Rattle.outside_sites.proofs.OutsideLaws.{looked_none, product_found, product_more, product-done}
+-- The first term with a site at `spins` or above ends the walk (`looked_found`).
+use mathlib.Core.Path.{sym, ap, ◌∙◌}
+use Rattle.rows.specs.Calls.{outside}
+use Rattle.term_sets.specs.Complexes.{items_of}
+use Rattle.outside_sites.proofs.OutsideLaws.{looked_found, looked_more, looked_done, product, products_are}
 use Rattle.outside_sites.proofs.of_operator.Goals as goal
 
-pub loop-i-init : goal.loop-i-init
-loop-i-init c =
-    let whole : length c.args.s.terms ≡ 64 = omega arith in
-    looked_none whole c.held_count-n.ensures
+pub returns-then-is_some : goal.returns-then-is_some
+returns-then-is_some c =
+    let l = c.held-t-items.result.now in
+    looked_found product c.args.spins l c.loop-t.t-index c.loop-t.invariant _ _ c.loop-t-test.true c.of_product-site.ensures (sym c.is_some.ensures ∙ c.if-is_some.true)
+    ∙ ap (outside c.args.spins) (products_are l ∙ ap items_of c.held-t-items.ensures)
 
-pub offset_bounds-s-i : goal.offset_bounds-s-i
-offset_bounds-s-i c = omega arith
-
-pub bounds-s-i : goal.bounds-s-i
-bounds-s-i c = omega arith
-
-pub returns-then-spins-reach : goal.returns-then-spins-reach
-returns-then-spins-reach c =
-    product_found c.loop-i.invariant _ c.loop-i-test.true c.reach-reach.ensures c.if-spins-reach.true
-
-pub overflow_add-i : goal.overflow_add-i
-overflow_add-i c = omega arith
-
-pub loop-i-smaller : goal.loop-i-smaller
-loop-i-smaller c = omega arith
-
-pub loop-i-preserved : goal.loop-i-preserved
-loop-i-preserved c =
-    product_more c.loop-i.invariant _ c.loop-i-test.true c.reach-reach.ensures c.if-spins-reach.false
+pub loop-t-preserved : goal.loop-t-preserved
+loop-t-preserved c =
+    looked_more product c.args.spins c.held-t-items.result.now c.loop-t.t-index c.loop-t.invariant _ _ c.loop-t-test.true c.of_product-site.ensures (sym c.is_some.ensures ∙ c.if-is_some.false)
 
 pub returns : goal.returns
-returns c = product-done c.loop-i.invariant c.loop-i-test.false
+returns c =
+    let l = c.held-t-items.result.now in
+    looked_done product c.args.spins l c.loop-t.t-index c.loop-t.invariant c.loop-t-test.false ∙ ap (outside c.args.spins) (products_are l ∙ ap items_of c.held-t-items.ensures)

@@ -1,56 +1,38 @@
--- The five cases of a write (`puts_struck`, `puts_free`, `puts_replaced`, `puts_full`, `puts_appended`), told apart by the place that the search answered.
-use native.Mathlib.Omega.{arith}
-use mathlib.Core.Path.{◌≡◌, sym, ◌∙◌}
-use Rattle.terms.proofs.SettingLaws.{Held}
-use Rattle.terms.specs.Keyed.{first_at}
-use Rattle.terms.specs.Setting.{keyed}
-use Rattle.term_sets.specs.Complexes.{complex_terms, blank, held_by}
-use Rattle.terms.proofs.FilledLaws.{held_own}
-use Rattle.term_sets.proofs.SetLaws.{term_sets}
-use Rattle.terms.proofs.WriteLaws.{struck_own, puts_struck, puts_replaced, puts_free, puts_full, puts_appended}
-use Rattle.term_writing.proofs.put.Goals.{After-find-i, Start}
+-- `put`: the four cases of a write, by whether the key has a place and whether the coefficient is zero.
+use Rattle.std.proofs.Common.{arith, ◌∙◌, sym}
+use Rattle.term_writing.proofs.WritingLaws.{struck_write, replaced_write, free_write, free_place, appended_write}
 use Rattle.term_writing.proofs.put.Goals as goal
 
--- the set holds its own terms
-own : (c : Start) → Held blank c.args.s.count c.args.s.terms
-own c = held_own term_sets c.args.s (omega arith) c.requires
+pub listed-in-None-false : goal.listed-in-None-false
+listed-in-None-false g c =
+    let m = free_place g.K.Key.keys g.N.Coefficient.numbers c.args.s.now c.requires.few c.requires.own c.args.key c.args.value
+    (rw c.in-None-false.is-0 at c.requires.place) (sym c.in-None-false.ensures) c.requires.room in
+    omega arith
 
--- the search answered the place of the first term with the key
-place : (c : After-find-i) → c.find-i.result ≡ first_at (keyed complex_terms c.args.key) (held_by c.args.s)
-place c = omega arith
+pub bounds-s-count : goal.bounds-s-count
+bounds-s-count g c =
+    free_place g.K.Key.keys g.N.Coefficient.numbers c.args.s.now c.requires.few c.requires.own c.args.key c.args.value
+    (rw c.in-None-false.is-0 at c.requires.place) (sym c.in-None-false.ensures) c.requires.room
 
-pub returns-then-i-n : goal.returns-then-i-n
-returns-then-i-n c =
-    let z = sym c.is_zero.ensures ∙ c.if-is_zero.true in
-    let p = puts_struck complex_terms term_sets c.args.key c.args.value c.args.s.count c.args.s.terms (own c.before.before.before.before.before) c.find-i.result (place c.before.before.before.before) (omega arith) z c.without.result (struck_own term_sets _ _ c.without.ensures (own c.before.before.before.before.before) (omega arith)) in
-    record { room = p.0; set = p.1 }
+pub returns-in-Some-true : goal.returns-in-Some-true
+returns-in-Some-true g c =
+    c.strike.ensures
+    ∙ struck_write g.K.Key.keys g.N.Coefficient.numbers c.args.s.now c.requires.few c.requires.own c.args.key c.args.value
+    c.in-Some-true.i (rw c.in-Some-true.is-0 at c.requires.place) (sym c.in-Some-true.ensures)
 
-pub returns-then-is_zero : goal.returns-then-is_zero
-returns-then-is_zero c =
-    let z = sym c.is_zero.ensures ∙ c.if-is_zero.true in
-    let p = puts_free complex_terms term_sets c.args.key c.args.value c.args.s.count c.args.s.terms (own c.before.before.before.before) c.find-i.result (place c.before.before.before) (omega arith) z in
-    record { room = p.0; set = p.1 }
+pub returns-in-Some-false : goal.returns-in-Some-false
+returns-in-Some-false g c =
+    replaced_write g.K.Key.keys g.N.Coefficient.numbers c.args.s.now c.requires.few c.requires.own c.args.key c.args.value
+    c.in-Some-false.i (rw c.in-Some-false.is-0 at c.requires.place) (sym c.in-Some-false.ensures)
 
-pub offset_bounds-r-i : goal.offset_bounds-r-i
-offset_bounds-r-i c = omega (arith, own c.before.before.before.before)
+pub returns-in-None-true : goal.returns-in-None-true
+returns-in-None-true g c =
+    free_write g.K.Key.keys g.N.Coefficient.numbers c.args.s.now c.requires.few c.requires.own c.args.key c.args.value
+    (rw c.in-None-true.is-0 at c.requires.place) (sym c.in-None-true.ensures)
 
-pub bounds-r-i : goal.bounds-r-i
-bounds-r-i c = omega (arith, own c.before.before.before.before)
-
-pub returns-then-i-n-2 : goal.returns-then-i-n-2
-returns-then-i-n-2 c =
-    let z = sym c.is_zero.ensures ∙ c.if-is_zero.false in
-    let p = puts_replaced complex_terms term_sets c.args.key c.args.value c.args.s.count c.args.s.terms (own c.before.before.before.before) c.find-i.result (place c.before.before.before) (omega arith) z in
-    record { room = p.0; set = p.1 }
-
-pub returns-then-n-ge-MOST_TERMS : goal.returns-then-n-ge-MOST_TERMS
-returns-then-n-ge-MOST_TERMS c =
-    let z = sym c.is_zero.ensures ∙ c.if-is_zero.false in
-    let p = puts_full complex_terms term_sets c.args.key c.args.value c.args.s.count c.args.s.terms (own c.before.before.before.before.before) c.find-i.result (place c.before.before.before.before) (omega arith) z (omega arith) in
-    record { room = p.0; set = p.1 }
-
-pub returns : goal.returns
-returns c =
-    let z = sym c.is_zero.ensures ∙ c.if-is_zero.false in
-    let p = puts_appended complex_terms term_sets c.args.key c.args.value c.args.s.count c.args.s.terms (own c.before.before.before.before.before) c.find-i.result (place c.before.before.before.before) (omega arith) z (omega arith) in
-    record { room = p.0; set = p.1 }
+pub returns-in-None-false : goal.returns-in-None-false
+returns-in-None-false g c =
+    let z = sym c.in-None-false.ensures in
+    let p = rw c.in-None-false.is-0 at c.requires.place in
+    appended_write g.K.Key.keys g.N.Coefficient.numbers c.args.s.now c.requires.few c.requires.own c.args.key c.args.value p z
+    (free_place g.K.Key.keys g.N.Coefficient.numbers c.args.s.now c.requires.few c.requires.own c.args.key c.args.value p z c.requires.room)

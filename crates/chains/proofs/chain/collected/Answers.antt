@@ -1,81 +1,33 @@
--- `chain::collected`: of the terms below i those that are not zero are held (`Keeping`); added to nothing, terms with different keys give just these.
--- Assumes nothing.
-use native.Mathlib.Omega.{arith}
-use mathlib.Core.Path.{◌≡◌, sym, ap, ◌∙◌}
-use mathlib.Core.Bool.{true}
-use mathlib.Core.List.{[], map}
+-- `collected`: each step by `remaining_more`; an addition that finds no room, and the end, are answered.
+use Rattle.std.proofs.Common.{◌∙◌, refl, ap, sym, [], map}
 use Rattle.refusal.specs.Refusals.{gives}
-use Rattle.complex.specs.Complex.{in_range}
+use Rattle.complex.specs.Coefficients.{complexes}
 use Rattle.terms.specs.Setting.{add_all}
-use Rattle.terms.proofs.SettingLaws.{Held}
-use Rattle.terms.proofs.AnswerLaws.{ended_out, ended_in}
-use Rattle.terms.proofs.FilledLaws.{held_own, held-from, own_from}
-use Rattle.terms.proofs.StepLaws.{kept, different-added}
-use Rattle.term_sets.specs.Complexes.{complex_terms, blank, held_by, filled}
-use Rattle.term_sets.proofs.SetLaws.{term_sets}
-use Rattle.term_sets.proofs.ValidLaws.{valid_term_sets}
-use Rattle.chains.specs.ChainAnswers.{all_in_range}
-use Rattle.chains.proofs.PassLaws.{keeping_none, keeping_room, keeping_zero, keeping_other, keeping_done}
-use Rattle.chains.proofs.chain.collected.Goals.{After-loop-i, Start}
+use Rattle.terms.proofs.NestedLaws.{concat_map_one}
+use Rattle.term_sets.specs.Complexes.{held_by, complex_terms}
+use Rattle.term_sets.specs.Keys.{item_keys}
+use Rattle.term_writing.proofs.ChainLaws.{remaining_all, remaining_more, remaining_full, remaining_none, refused_told, end_told}
+use Rattle.chains.specs.ChainAnswers.{ended}
+use Rattle.chains.proofs.StepLaws.{term_step}
 use Rattle.chains.proofs.chain.collected.Goals as goal
 
--- the set has all its places, and holds its own terms
-own : (c : Start) → Held blank c.args.s.count c.args.s.terms
-own c = held_own term_sets c.args.s (omega arith) c.requires.0
+pub loop-x-init : goal.loop-x-init
+loop-x-init c =
+    remaining_all item_keys complexes (add_all complex_terms (map gives (held_by c.args.s.now)) []) term_step _ [] _
+    (rw c.held-x-items.ensures (ap (λ xs. add_all complex_terms xs []) (concat_map_one gives (held_by c.args.s.now))))
+    c.new-sum.ensures
 
--- what is held at the end, and that this is what the chain gives
-held : (c : After-loop-i) → c.loop-i.out ≡ filled (kept complex_terms (held_by c.args.s))
-held c = keeping_done c.loop-i.invariant c.loop-i-test.false
+pub loop-x-preserved : goal.loop-x-preserved
+loop-x-preserved c = remaining_more item_keys complexes c.loop-x.invariant _ c.loop-x-test.true _ _ refl c.in_ok-add.ensures
 
-gives-kept : (c : After-loop-i) → let l = held_by c.args.s in add_all complex_terms (map gives l) [] ≡ gives (kept complex_terms l)
-gives-kept c =
-    let h = own c.before.before.before in
-    different-added complex_terms (valid_term_sets true).alike (held_by c.args.s) c.requires.1 (omega (arith, h.long, h.few))
-
-pub loop-i-init : goal.loop-i-init
-loop-i-init c = keeping_none (own c.before) _ c.empty_set-out.ensures
-
-pub offset_bounds-s-i : goal.offset_bounds-s-i
-offset_bounds-s-i c = omega (arith, c.loop-i.invariant.few)
-
-pub bounds-s-i : goal.bounds-s-i
-bounds-s-i c = omega (arith, c.loop-i.invariant.few)
-
-pub overflow_add-i : goal.overflow_add-i
-overflow_add-i c = omega arith
-
-pub loop-i-smaller-then-is_zero : goal.loop-i-smaller-then-is_zero
-loop-i-smaller-then-is_zero c = omega arith
-
-pub loop-i-preserved-then-is_zero : goal.loop-i-preserved-then-is_zero
-loop-i-preserved-then-is_zero c =
-    keeping_zero _ c.loop-i.invariant c.loop-i-test.true _ c.sum-sum.ensures (sym c.is_zero.ensures ∙ c.if-is_zero.true)
-
-pub offset_bounds-out-n : goal.offset_bounds-out-n
-offset_bounds-out-n c = let r = keeping_room c.loop-i.invariant (omega arith) in omega arith
-
-pub bounds-out-n : goal.bounds-out-n
-bounds-out-n c = keeping_room c.loop-i.invariant (omega arith)
-
-pub overflow_add-out : goal.overflow_add-out
-overflow_add-out c = let r = keeping_room c.loop-i.invariant (omega arith) in omega arith
-
-pub loop-i-smaller : goal.loop-i-smaller
-loop-i-smaller c = omega arith
-
-pub loop-i-preserved : goal.loop-i-preserved
-loop-i-preserved c =
-    keeping_other _ c.loop-i.invariant c.loop-i-test.true _ c.sum-sum.ensures (sym c.is_zero.ensures ∙ c.if-is_zero.false)
-
-pub all_in_range-requires : goal.all_in_range-requires
-all_in_range-requires c = own_from term_sets _ _ (held c)
-
-pub returns-then-not-all_in_range : goal.returns-then-not-all_in_range
-returns-then-not-all_in_range c =
-    let out = held-from term_sets _ _ (held c.before.before) in
-    ended_out complex_terms in_range filled _ (gives-kept c.before.before) (ap all_in_range (sym out) ∙ sym c.all_in_range.ensures ∙ c.if-not-all_in_range.true)
+pub returns-in_err-add : goal.returns-in_err-add
+returns-in_err-add c =
+    λ back.
+    refused_told item_keys complexes back _ _ _ c.from_residual.ensures.1
+    (remaining_full item_keys complexes c.loop-x.invariant _ c.loop-x-test.true _ _ refl c.in_err-add.ensures)
 
 pub returns : goal.returns
 returns c =
-    let out = held-from term_sets _ _ (held c.before.before) in
-    ended_in complex_terms in_range filled _ (gives-kept c.before.before) (held c.before.before) (ap all_in_range (sym out) ∙ sym c.all_in_range.ensures ∙ c.if-not-all_in_range.false)
+    λ back.
+    end_told item_keys complexes back _ c.finished.result c.finished.ensures
+    ∙ ap (ended back) (sym (remaining_none item_keys complexes c.loop-x.invariant c.loop-x-test.false))

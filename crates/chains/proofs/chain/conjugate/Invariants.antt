@@ -1,13 +1,21 @@
--- `chain::conjugate`: after i turns the first i terms of a valid set are conjugated in their places (`Mapped`); their keys stay, so they go on differing.
--- Assumes nothing.
-use Prim.Native.Nat.{◌-◌}
-use mathlib.Core.Path.{◌≡◌}
-use Rattle.letters.specs.Matrices.{letters_of}
-use Rattle.chains.proofs.PassLaws.{Mapped, conjugate_term}
+-- `conjugate`: the terms left, changed and added to what is held, give what all give.
+use Rattle.std.proofs.Common.{List, [], map}
+use Rattle.refusal.specs.Refusals.{Said, gives}
+use Rattle.complex.specs.Coefficients.{complexes}
+use Rattle.letters.specs.Matrices.{Letters, letters_of}
+use Rattle.terms.specs.Setting.{add_all}
+use Rattle.term_sets.specs.Complexes.{Term, TermSet, held_by, complex_terms}
+use Rattle.term_sets.specs.Keys.{item_keys}
+use Rattle.term_writing.proofs.ChainLaws.{Remaining}
+use Rattle.chains.specs.ChainAnswers.{conjugates}
+use Rattle.chains.proofs.StepLaws.{conjugate_step}
 use Rattle.chains.proofs.chain.conjugate.Given as goal
 
-abbrev pub invariant-loop-i : goal.invariant-loop-i
-invariant-loop-i l = (l.out.count ≡ l.n) × Mapped (conjugate_term (letters_of l.kind)) l.n l.s.terms l.i l.out.terms
+-- what the chain gives
+abbrev pub wanted : Letters → TermSet → Said (List Term)
+wanted M s = add_all complex_terms (map gives (conjugates M (held_by s))) []
 
-abbrev pub decreases-loop-i : goal.decreases-loop-i
-decreases-loop-i l = l.n - l.i
+abbrev pub invariant-loop-x : goal.invariant-loop-x
+invariant-loop-x l =
+    let M = letters_of l.kind in
+    Remaining item_keys complexes (wanted M l.s) (conjugate_step M) l.x-items l.x-index [] (held_by l.sum.set)

@@ -1,34 +1,28 @@
--- `chain::multiplied`: two loops over the pairs of terms (`Outer`, `Inner`). Before each pair the set and the numbers stand for the steps taken, and the
--- steps left, added to it, give what the definition gives (`Adding`); a pair's term is looked up by its number, then by itself, and its sum put in place.
--- Assumes nothing.
-use Prim.Native.Nat.{◌-◌}
-use mathlib.Core.List.{List, []}
+-- `multiplied`: the pairs left, added to what is held, give what all give: in the row of the left term at hand, then in later rows.
+use Rattle.std.proofs.Common.{List, [], ◌++◌, ◌+◌, drop}
 use Rattle.refusal.specs.Refusals.{Said}
-use Rattle.letters.specs.Matrices.{letters_of}
-use Rattle.letters.specs.declared.Kind.{Kind}
-use Rattle.items.specs.Masks.{masks_of}
+use Rattle.complex.specs.Coefficients.{complexes}
+use Rattle.letters.specs.Matrices.{Letters, letters_of}
+use Rattle.terms.specs.Keyed.{concat_map}
 use Rattle.terms.specs.Setting.{add_all}
-use Rattle.terms.proofs.NestedLaws.{Outer, Inner}
-use Rattle.term_sets.specs.Complexes.{complex_terms, term_of, held_by}
-use Rattle.term_sets.specs.declared.Term.{Term}
-use Rattle.term_sets.specs.declared.TermSet.{TermSet}
-use Rattle.term_sets.proofs.SetLaws.{term_sets}
+use Rattle.term_sets.specs.Complexes.{Term, TermSet, held_by, complex_terms}
+use Rattle.term_sets.specs.Keys.{item_keys}
+use Rattle.term_writing.proofs.ChainLaws.{Remaining}
 use Rattle.chains.specs.ChainAnswers.{product_steps}
-use Rattle.chains.proofs.ProductLaws.{product_pair}
+use Rattle.chains.proofs.StepLaws.{product_step, product_row}
 use Rattle.chains.proofs.chain.multiplied.Given as goal
 
 -- what the chain gives
-abbrev pub wanted : Kind → TermSet → TermSet → Said (List Term)
-wanted kind s t = add_all complex_terms (product_steps (letters_of kind) (held_by s) (held_by t)) []
+abbrev pub wanted : Letters → TermSet → TermSet → Said (List Term)
+wanted M s t = add_all complex_terms (product_steps M (held_by s) (held_by t)) []
 
-abbrev pub invariant-loop-right : goal.invariant-loop-right
-invariant-loop-right l = Inner complex_terms term_sets masks_of (wanted l.kind l.s l.t) (product_pair (letters_of l.kind)) l.s.count l.t.count l.s.terms l.t.terms l.left l.right (term_of l.p l.a) l.out l.numbers
+abbrev pub invariant-loop-y : goal.invariant-loop-y
+invariant-loop-y l =
+    let M = letters_of l.kind in
+    Remaining item_keys complexes (wanted M l.s l.t) (product_step M l.x) l.y-items l.y-index
+    (concat_map (product_row M (held_by l.t)) (drop (l.x-index + 1) l.x-items) ++ []) (held_by l.sum.set)
 
-abbrev pub decreases-loop-right : goal.decreases-loop-right
-decreases-loop-right l = l.t.count - l.right
-
-abbrev pub invariant-loop-left : goal.invariant-loop-left
-invariant-loop-left l = Outer complex_terms term_sets masks_of (wanted l.kind l.s l.t) (product_pair (letters_of l.kind)) l.s.count l.t.count l.s.terms l.t.terms l.left l.out l.numbers
-
-abbrev pub decreases-loop-left : goal.decreases-loop-left
-decreases-loop-left l = l.s.count - l.left
+abbrev pub invariant-loop-x : goal.invariant-loop-x
+invariant-loop-x l =
+    let M = letters_of l.kind in
+    Remaining item_keys complexes (wanted M l.s l.t) (product_row M (held_by l.t)) l.x-items l.x-index [] (held_by l.sum.set)

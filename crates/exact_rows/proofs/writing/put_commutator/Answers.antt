@@ -18,6 +18,6 @@ returns c long =
     let left = c.put.ensures long in
     let right = c.put-2.ensures left.1 in (
       λ ok. rw two
-          (exact_commutator_put c.args.spins c.args.row c.args.t ok c.masks.ensures c.commutator_entries-e.ensures (read_parts _ c.parts_of-x.ensures) (read_parts _ c.parts_of-y.ensures) c.scaled_halves-a.ensures c.scaled_halves-b.ensures (exact_entries c.args.columns.now c.args.re.now c.args.im.now c.args.at) left.0 right.0),
+          (exact_commutator_put c.args.spins c.args.row c.args.t.now ok c.masks.ensures c.commutator_entries-e.ensures (read_parts _ c.parts_of-x.ensures) (read_parts _ c.parts_of-y.ensures) c.scaled_halves-a.ensures c.scaled_halves-b.ensures (exact_entries c.args.columns.now c.args.re.now c.args.im.now c.args.at) left.0 right.0),
       right.1,
     )

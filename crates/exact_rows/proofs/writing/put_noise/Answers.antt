@@ -34,6 +34,6 @@ returns c long =
     let left = c.put-2.ensures jump.1 in
     let right = c.put-3.ensures left.1 in (
       λ ok. rw three
-          (exact_noise_put c.args.spins c.args.row c.args.t ok c.masks.ensures c.masks-2.ensures c.noise_entries-e.ensures (read_parts _ c.parts_of-x.ensures) (read_parts _ c.parts_of-y.ensures) c.scaled_halves-a.ensures c.minus_halves-b.ensures c.minus_halves-d.ensures (exact_entries c.args.columns.now c.args.re.now c.args.im.now c.args.at) jump.0 left.0 right.0),
+          (exact_noise_put c.args.spins c.args.row c.args.t.now ok c.masks.ensures c.masks-2.ensures c.noise_entries-e.ensures (read_parts _ c.parts_of-x.ensures) (read_parts _ c.parts_of-y.ensures) c.scaled_halves-a.ensures c.minus_halves-b.ensures c.minus_halves-d.ensures (exact_entries c.args.columns.now c.args.re.now c.args.im.now c.args.at) jump.0 left.0 right.0),
       right.1,
     )

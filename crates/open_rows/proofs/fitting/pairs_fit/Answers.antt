@@ -1,12 +1,19 @@
--- Both sides of each term fit (`pairs-inside`).
-use mathlib.Core.Path.{sym, subst, ◌∙◌}
-use lib.Dec.{T}
-use Rattle.open_rows.proofs.HandedLaws.{pairs-inside}
+-- Two masks more are joined (`all_next`); where the joined ones are below 2^spins, so is each (`pairs_done`).
+use native.Mathlib.Omega.{arith}
+use Rattle.terms.proofs.KeyedLaws.{all_nil}
+use Rattle.open_rows.proofs.MaskedLaws.{BothBelow, below_old, below_new, all_next, pairs_done}
 use Rattle.open_rows.proofs.fitting.pairs_fit.Goals as goal
 
-pub returns-then-fits : goal.returns-then-fits
-returns-then-fits c e w v count l r =
-    pairs-inside c.args.lefts.now c.args.rights.now w c.args.spins (c.fits.ensures c.if-fits.true) (c.fits-then-fits.ensures e) v count l r
+pub loop-i-init : goal.loop-i-init
+loop-i-init c = all_nil (BothBelow 0)
 
-pub returns-else-fits : goal.returns-else-fits
-returns-else-fits c e w v count l r = absurd (subst T (sym e ∙ c.if-fits.false) tt)
+pub loop-i-preserved : goal.loop-i-preserved
+loop-i-preserved c =
+    let all = c.loop-i.all in
+    all_next (BothBelow all) (BothBelow _) _ _ _ (omega (arith, c.requires))
+    (λ t b. record { left = below_old _ _ t.masks.left (below_old all _ t.masks.left b.left); right = below_old _ _ t.masks.right (below_old all _ t.masks.right b.right) })
+    c.loop-i.invariant
+    (record { left = below_old _ _ _ (below_new all _); right = below_new _ _ })
+
+pub returns : goal.returns
+returns c e w v g = pairs_done _ _ (c.is_below.ensures e) c.args.terms.now (omega arith) c.loop-i.invariant w v g

@@ -1,3 +1,0 @@
-pub mod WritingAnswers
-pub mod Striking
-pub mod Numbers

@@ -1,8 +1,0 @@
--- `PauliOperator::multiply` meets its contract: that of the function on sets, for the letters of its kind.
--- Assumes nothing.
-use Rattle.letters.specs.Matrices.{letters_of}
-use Rattle.operators.proofs.pauli_operator.PauliOperator.multiply.Goals as goal
-
-pub returns : goal.returns
-unfolding letters_of
-returns c = c.multiply-a.ensures
