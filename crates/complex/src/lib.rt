@@ -7,7 +7,7 @@ ghost use Rattle.complex.specs.Complex.{product_of, conjugate_of, part_in_range,
 pub mod coefficient;
 pub mod whole;
 
-#[derive(Clone, Copy)]
+#[derive(Clone, Copy, Default)]
 pub struct Complex {
     pub re: f64,
     pub im: f64,

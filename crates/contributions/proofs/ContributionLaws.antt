@@ -1,6 +1,6 @@
 -- The contributions of a term to a row, from the entries of its products: scaled they are what `operator_terms`, `commutator_terms` and
 -- `noise_terms` say. Assumes nothing.
-use mathlib.Core.Path.{◌≡◌, sym, ap, ◌∙◌}
+use mathlib.Core.Path.{◌≡◌}
 use mathlib.Core.List.{[], ◌∷◌, map}
 use Prim.Native.Nat.{ℕ, ◌*◌, ◌/◌, ◌%◌, ◌^◌, ◌<◌}
 use native.Mathlib.Nat.{mod-lt, div-lt_iff_lt-mul}
@@ -12,7 +12,7 @@ use Rattle.items.specs.declared.Items.{Items}
 use Rattle.master_equation.specs.Numbers.{Numbers}
 use Rattle.master_equation.specs.Contributions.{operator_terms, commutator_terms, noise_terms}
 use Rattle.row_entries.specs.Entries.{operator_entry, commutator_entries, noise_entries}
-use Rattle.contributions.specs.Values.{whole_entry, half_entry, jump_and_halves}
+use Rattle.contributions.specs.Values.{whole_entry, jump_and_halves}
 use Rattle.row_entries.proofs.EntryLaws.{entry_small, OfKind, pauli_kind, decoherence_kind, Within, column_inside, power_inside}
 
 module _ {C N : Type 0} (A : Numbers C N) (c : C) where
@@ -65,12 +65,3 @@ module _ {C N : Type 0} (A : Numbers C N) (c : C) where
             power_inside decoherence_kind n q v m' m'-below,
             power_inside decoherence_kind n p w m' m'-below,
           )
-
-      -- the same from the entries that the code finds
-      pub commutator_contributes : (p : Items) → Within n p → {left right : ℕ × ℕ} → left ∷ right ∷ [] ≡ commutator_entries (masks_of p) n r
-          → commutator_terms A n (r / 2 ^ n) (r % 2 ^ n) (letter_at p) c ≡ whole_entry A c left ∷ whole_entry A c right ∷ []
-      commutator_contributes p w e = commutator_terms_lem p w ∙ ap (map (whole_entry A c)) (sym e)
-
-      pub noise_contributes : (p q : Items) → Within n p → Within n q → {jump left right : ℕ × ℕ} → jump ∷ left ∷ right ∷ [] ≡ noise_entries (masks_of p) (masks_of q) n r
-          → noise_terms A n (r / 2 ^ n) (r % 2 ^ n) (letter_at p) (letter_at q) c ≡ whole_entry A c jump ∷ half_entry A c left ∷ half_entry A c right ∷ []
-      noise_contributes p q w v e = noise_terms_lem p q w v ∙ ap (jump_and_halves A c) (sym e)

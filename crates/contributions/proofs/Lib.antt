@@ -1,3 +1,4 @@
 pub mod ContributionLaws
 pub mod ValueLaws
-pub mod WritingLaws
+pub mod TurnLaws
+pub mod HeldLaws

@@ -1,130 +1,100 @@
--- Three arrays with contributions written from a place on: one after the other, and what they hold then; and the contributions of a term, as the
--- code finds them.
+-- The contributions found from the masks of terms that have the row are those of the terms. Over any numbers: `of` is a coefficient as the row takes it.
 -- Assumes nothing.
-use Prim.Native.Nat.{ℕ, suc, ◌+◌, ◌≤◌, ◌<◌, min}
-use native.Mathlib.Nat.{add-zero}
-use native.Mathlib.Numerals.{add-one}
-use native.Mathlib.Omega.{arith}
-use mathlib.Core.Path.{◌≡◌, refl, sym, ap, ap₂, subst, ◌∙◌}
-use mathlib.Core.Bool.{Bool, true, false, cond}
-use mathlib.Core.List.{List, [], ◌∷◌, ◌++◌, map, append_assoc, append-nil}
-use lib.Dec.{leb}
-use lib.Ieee.{Float}
-use lib.ListN.{length, set}
-use borrow.Author.Tests.{le-leb, lt-leb}
-use Rattle.complex.specs.Complex.{product_of, unit_of_I}
+use Prim.Native.Nat.{ℕ, ◌*◌, ◌/◌, ◌%◌, ◌^◌, min}
+use mathlib.Core.Path.{◌≡◌, refl, sym, ap₂, ◌∙◌, subst}
+use mathlib.Core.List.{List, [], ◌∷◌, ◌++◌, map}
+use lib.ListN.{length}
 use Rattle.complex.specs.declared.Complex.{Complex}
+use Rattle.letters.specs.Matrices.{Letters}
+use Rattle.items.specs.Record.{letter_at}
+use Rattle.items.specs.Masks.{masks_of}
+use Rattle.items.specs.declared.Items.{Items}
 use Rattle.row_entries.specs.Answers.{most_spins}
-use Rattle.rows.specs.HalfUnits.{minus_half_unit}
-use Rattle.rows.specs.Floats.{floats}
-use Rattle.rows.specs.Buffers.{most_entries, Long, entries}
-use Rattle.rows.proofs.ArrayLaws.{long_stored, entries_stored}
-use Rattle.row_entries.specs.Entries.{commutator_entries, noise_entries}
-use Rattle.contributions.specs.Values.{whole_entry, jump_and_halves, commutator_values, noise_values, Arrays, stored_from, written}
+use Rattle.row_entries.specs.Entries.{operator_entry, commutator_entries, noise_entries}
+use Rattle.row_entries.proofs.EntryLaws.{OfKind}
+use Rattle.row_entries.proofs.RowLaws.{few-spins}
+use Rattle.terms.specs.Keyed.{concat_map}
+use Rattle.terms.proofs.KeyedLaws.{concat_map_nil, concat_map_cons}
+use Rattle.term_sets.specs.Complexes.{Term, items_of}
+use Rattle.noise_sets.specs.Pairs.{NoiseTerm, sides, sides_of}
+use Rattle.master_equation.specs.Numbers.{Numbers}
+use Rattle.master_equation.specs.Contributions.{operator_terms, commutator_terms, noise_terms}
+use Rattle.outside_sites.specs.Accepted.{Accepted}
+use Rattle.outside_sites.proofs.AcceptedLaws.{accepted_first, accepted_rest, accepted_left, accepted_right}
+use Rattle.outside_sites.proofs.OutsideLaws.{product, products_are}
+use Rattle.contributions.specs.Values.{whole_entry, jump_and_halves, commutator_values, noise_values}
+use Rattle.contributions.proofs.ContributionLaws.{operator_terms_lem, commutator_terms_lem, noise_terms_lem}
 
--- ---- one after the other
+-- ---- of one term
 
-module _ (at : ℕ) (l : List (ℕ × Complex)) (a : Arrays) where
-  -- where there are places for all of them, and where there are not
-  written_room : at + length l ≤ most_entries → written at l a ≡ stored_from at l a
-  unfolding written
-  written_room h = rw (le-leb (at + length l) most_entries h)
+module _ {C N : Type 0} (A : Numbers C N) where
+  module _ (c : C) (n r : ℕ) where
+    pub operator_values_lem : {M : Letters} → OfKind M → (p : Items) → Accepted n (2 ^ n) r (p ∷ [])
+        → whole_entry A c (operator_entry M (masks_of p) (min n most_spins) r) ∷ [] ≡ operator_terms A n M r (letter_at p) c
+    operator_values_lem {M} o p k =
+        few-spins (λ s. whole_entry A c (operator_entry M (masks_of p) s r) ∷ []) n k.few refl ∙ sym (operator_terms_lem A c n o p (accepted_first p [] k) r k.below)
 
-  pub written_past : most_entries < at + length l → a ≡ written at l a
-  unfolding written
-  written_past h = rw (lt-leb (at + length l) most_entries h)
+    pub commutator_values_lem : (p : Items) → Accepted n (2 ^ n * 2 ^ n) r (p ∷ []) → commutator_values A (masks_of p) c n r ≡ commutator_terms A n (r / 2 ^ n) (r % 2 ^ n) (letter_at p) c
+    unfolding commutator_values
+    commutator_values_lem p k =
+        few-spins (λ s. map (whole_entry A c) (commutator_entries (masks_of p) s r)) n k.few refl ∙ sym (commutator_terms_lem A c n r k.below p (accepted_first p [] k))
 
-module _ (at : ℕ) (e : ℕ × Complex) where
-  -- one, and then others
-  pub written_one : (a : Arrays) → at < most_entries → ◌≡◌ {A = Arrays} (set a.0 at e.0, set a.1 at e.1.re, set a.2 at e.1.im) (written at (e ∷ []) a)
-  unfolding stored_from
-  written_one a h = sym (written_room at (e ∷ []) a (omega arith))
+    pub noise_values_lem : (p q : Items) → Accepted n (2 ^ n * 2 ^ n) r (p ∷ q ∷ [])
+        → noise_values A (masks_of p) (masks_of q) c n r ≡ noise_terms A n (r / 2 ^ n) (r % 2 ^ n) (letter_at p) (letter_at q) c
+    unfolding noise_values
+    noise_values_lem p q k =
+        few-spins (λ s. jump_and_halves A c (noise_entries (masks_of p) (masks_of q) s r)) n k.few refl
+        ∙ sym (noise_terms_lem A c n r k.below p q (accepted_first p (q ∷ []) k) (accepted_first q [] (accepted_rest p (q ∷ []) k)))
 
-  written_then : (l : List (ℕ × Complex)) (a : Arrays) {b d : Arrays} → at + 1 + length l ≤ most_entries → b ≡ written at (e ∷ []) a → d ≡ written (at + 1) l b → d ≡ written at (e ∷ l) a
-  unfolding stored_from
-  written_then l a {b} h f g =
-      g
-      ∙ written_room (at + 1) l b h
-      ∙ ap (stored_from (at + 1) l) (f ∙ sym (written_one a (omega arith)))
-      ∙ ap (λ (k : ℕ). stored_from k l (set a.0 at e.0, set a.1 at e.1.re, set a.2 at e.1.im)) (add-one at)
-      ∙ sym (written_room at (e ∷ l) a (omega arith))
+  -- as many as they are
+  pub commutator-count : (m : ℕ) (c : C) (n r : ℕ) → length (commutator_values A m c n r) ≡ 2
+  unfolding commutator_values commutator_entries
+  commutator-count m c n r = refl
 
--- ---- what the arrays hold then
+  pub noise-count : (m m' : ℕ) (c : C) (n r : ℕ) → length (noise_values A m m' c n r) ≡ 3
+  unfolding noise_values noise_entries
+  noise-count m m' c n r = refl
 
-abbrev LongArrays : Arrays → Type 0
-LongArrays a = Long a.0 a.1 a.2
+-- ---- of terms, one after the other
 
-abbrev entries_of : Arrays → ℕ → List (ℕ × Complex)
-entries_of a n = entries a.0 a.1 a.2 n
+-- what f and g make of terms with the products h
+parts_same : {T B : Type 0} (f g : T → List B) (h : T → List Items) {n rows r : ℕ} → ((t : T) → Accepted n rows r (h t) → f t ≡ g t) → (l : List T) → Accepted n rows r (concat_map h l)
+    → concat_map f l ≡ concat_map g l
+parts_same f g h e [] k = concat_map_nil f ∙ sym (concat_map_nil g)
+parts_same f g h {n} {rows} {r} e (t ∷ l) k =
+    let k' = subst (Accepted n rows r) (concat_map_cons h t l) k in
+    concat_map_cons f t l
+    ∙ ap₂ ◌++◌ (e t (accepted_left (h t) (concat_map h l) k')) (parts_same f g h e l (accepted_right (h t) (concat_map h l) k'))
+    ∙ sym (concat_map_cons g t l)
 
-stored_long : (at : ℕ) (l : List (ℕ × Complex)) (a : Arrays) → LongArrays a → LongArrays (stored_from at l a)
-unfolding stored_from
-stored_long at [] a h = h
-stored_long at (e ∷ l) a h =
-    stored_long (suc at) l (set a.0 at e.0, set a.1 at e.1.re, set a.2 at e.1.im) (long_stored a.0 a.1 a.2 at e.0 e.1.re e.1.im h)
+module _ {C N : Type 0} (A : Numbers C N) (of : Complex → C) (n r : ℕ) where
+  -- as the code finds them
+  abbrev pub operator_found : Letters → Term → List (ℕ × N)
+  operator_found M t = whole_entry A (of t.coefficient) (operator_entry M (masks_of t.key) (min n most_spins) r) ∷ []
 
-stored_entries : (at : ℕ) (l : List (ℕ × Complex)) (a : Arrays) → LongArrays a → at + length l ≤ most_entries → entries_of (stored_from at l a) (at + length l) ≡ entries_of a at ++ l
-unfolding stored_from
-stored_entries at [] a h room = ap (entries_of a) (add-zero at) ∙ sym (append-nil (entries_of a at))
-stored_entries at (e ∷ l) a h room =
-    let b : Arrays = (set a.0 at e.0, set a.1 at e.1.re, set a.2 at e.1.im) in
-    let next : at + suc (length l) ≡ suc at + length l = omega arith in
-    ap (entries_of (stored_from (suc at) l b)) next
-    ∙ stored_entries (suc at) l b (long_stored a.0 a.1 a.2 at e.0 e.1.re e.1.im h) (omega arith)
-    ∙ ap (λ (z : List (ℕ × Complex)). z ++ l) (ap (entries_of b) (sym (add-one at)) ∙ entries_stored a.0 a.1 a.2 at e.0 e.1 h (omega arith))
-    ∙ append_assoc (entries_of a at) (e ∷ []) l
+  abbrev pub commutator_found : Term → List (ℕ × N)
+  commutator_found t = commutator_values A (masks_of t.key) (of t.coefficient) n r
 
-module _ (at : ℕ) (l : List (ℕ × Complex)) {cs cs' : List ℕ} {xs xs' ys ys' : List Float} (e : ◌≡◌ {A = Arrays} (cs', xs', ys') (written at l (cs, xs, ys))) (h : Long cs xs ys) where
-  pub written-long : Long cs' xs' ys'
-  unfolding written
-  written-long = subst LongArrays (sym e) (go (leb (at + length l) most_entries))
-    where
-      go : (b : Bool) → LongArrays (cond b (stored_from at l (cs, xs, ys)) (cs, xs, ys))
-      go true = stored_long at l (cs, xs, ys) h
-      go false = h
+  abbrev pub noise_found : NoiseTerm → List (ℕ × N)
+  noise_found t = noise_values A (masks_of t.key.0) (masks_of t.key.1) (of t.coefficient) n r
 
-  pub written-entries : {k : ℕ} → k ≡ at + length l → k ≤ most_entries → entries cs' xs' ys' k ≡ entries cs xs ys at ++ l
-  written-entries {k} f room =
-      let all : at + length l ≤ most_entries = omega arith in
-      ap (λ (a : Arrays). entries_of a k) (e ∙ written_room at l (cs, xs, ys) all)
-      ∙ ap (entries_of (stored_from at l (cs, xs, ys))) f
-      ∙ stored_entries at l (cs, xs, ys) h all
+  -- those of terms that have the row
+  pub operators_lem : {M : Letters} → OfKind M → (l : List Term) → Accepted n (2 ^ n) r (items_of l)
+      → concat_map (operator_found M) l ≡ concat_map (λ t. operator_terms A n M r (letter_at t.key) (of t.coefficient)) l
+  operators_lem {M} o l k =
+      parts_same (operator_found M) (λ t. operator_terms A n M r (letter_at t.key) (of t.coefficient)) product (λ t. operator_values_lem A (of t.coefficient) n r o t.key) l
+      (subst (Accepted n (2 ^ n) r) (sym (products_are l)) k)
 
--- ---- the contributions of a term: as many as there are, and as the code puts them, from the entries and the units u, v and z
+  pub commutators_lem : (l : List Term) → Accepted n (2 ^ n * 2 ^ n) r (items_of l)
+      → concat_map commutator_found l ≡ concat_map (λ t. commutator_terms A n (r / 2 ^ n) (r % 2 ^ n) (letter_at t.key) (of t.coefficient)) l
+  commutators_lem l k =
+      parts_same commutator_found (λ t. commutator_terms A n (r / 2 ^ n) (r % 2 ^ n) (letter_at t.key) (of t.coefficient)) product
+      (λ t. commutator_values_lem A (of t.coefficient) n r t.key) l
+      (subst (Accepted n (2 ^ n * 2 ^ n) r) (sym (products_are l)) k)
 
-pub commutator-count : (p : ℕ) (c : Complex) (n r : ℕ) → length (commutator_values p c n r) ≡ 2
-unfolding commutator_values commutator_entries
-commutator-count p c n r = refl
-
-pub noise-count : (p q : ℕ) (c : Complex) (n r : ℕ) → length (noise_values p q c n r) ≡ 3
-unfolding noise_values noise_entries
-noise-count p q c n r = refl
-
-module _ (p : ℕ) (c : Complex) (n r at : ℕ) (s : Arrays) where
-  pub commutator_past : 318 < at → s ≡ written at (commutator_values p c n r) s
-  commutator_past h = written_past at (commutator_values p c n r) s (omega (arith, commutator-count p c n r))
-
-  pub commutator_put : at ≤ 318 → {left right : ℕ × ℕ} → left ∷ right ∷ [] ≡ commutator_entries p (min n most_spins) r
-      → {u v a b : Complex} → u ≡ unit_of_I left.1 → a ≡ product_of c u → v ≡ unit_of_I right.1 → b ≡ product_of c v
-      → {s' s'' : Arrays} → s' ≡ written at ((left.0, a) ∷ []) s → s'' ≡ written (at + 1) ((right.0, b) ∷ []) s' → s'' ≡ written at (commutator_values p c n r) s
-  unfolding commutator_values
-  commutator_put room {left} {right} e {a = a} {b = b} eu ea ev eb first second =
-      written_then at (left.0, a) ((right.0, b) ∷ []) s (omega arith) first second
-      ∙ ap (λ (l : List (ℕ × Complex)). written at l s)
-      (ap₂ (λ (a b : Complex). (left.0, a) ∷ (right.0, b) ∷ []) (ea ∙ ap (product_of c) eu) (eb ∙ ap (product_of c) ev) ∙ ap (map (whole_entry floats c)) e)
-
-module _ (p q : ℕ) (c : Complex) (n r at : ℕ) (s : Arrays) where
-  pub noise_past : 317 < at → s ≡ written at (noise_values p q c n r) s
-  noise_past h = written_past at (noise_values p q c n r) s (omega (arith, noise-count p q c n r))
-
-  pub noise_put : at ≤ 317 → {jump left right : ℕ × ℕ} → jump ∷ left ∷ right ∷ [] ≡ noise_entries p q (min n most_spins) r
-      → {u v z a b d : Complex} → u ≡ unit_of_I jump.1 → a ≡ product_of c u → v ≡ minus_half_unit left.1 → b ≡ product_of c v → z ≡ minus_half_unit right.1 → d ≡ product_of c z
-      → {s' s'' s''' : Arrays} → s' ≡ written at ((jump.0, a) ∷ []) s → s'' ≡ written (at + 1) ((left.0, b) ∷ []) s' → s''' ≡ written (at + 1 + 1) ((right.0, d) ∷ []) s''
-      → s''' ≡ written at (noise_values p q c n r) s
-  unfolding noise_values
-  noise_put room {jump} {left} {right} e {a = a} {b = b} {d = d} eu ea ev eb ez ed {s'} first second third =
-      written_then at (jump.0, a) ((left.0, b) ∷ (right.0, d) ∷ []) s (omega arith) first (written_then (at + 1) (left.0, b) ((right.0, d) ∷ []) s' (omega arith) second third)
-      ∙ ap (λ (l : List (ℕ × Complex)). written at l s)
-      (ap₂ (λ (a b : Complex). (jump.0, a) ∷ (left.0, b) ∷ (right.0, d) ∷ []) (ea ∙ ap (product_of c) eu) (eb ∙ ap (product_of c) ev)
-      ∙ ap (λ (d : Complex). (jump.0, product_of c (unit_of_I jump.1)) ∷ (left.0, product_of c (minus_half_unit left.1)) ∷ (right.0, d) ∷ []) (ed ∙ ap (product_of c) ez)
-      ∙ ap (jump_and_halves floats c) e)
+  pub noises_lem : (l : List NoiseTerm) → Accepted n (2 ^ n * 2 ^ n) r (sides_of l)
+      → concat_map noise_found l ≡ concat_map (λ t. noise_terms A n (r / 2 ^ n) (r % 2 ^ n) (letter_at t.key.0) (letter_at t.key.1) (of t.coefficient)) l
+  unfolding sides_of
+  noises_lem l k =
+      parts_same noise_found (λ t. noise_terms A n (r / 2 ^ n) (r % 2 ^ n) (letter_at t.key.0) (letter_at t.key.1) (of t.coefficient)) sides
+      (λ t. noise_values_lem A (of t.coefficient) n r t.key.0 t.key.1) l k

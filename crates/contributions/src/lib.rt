@@ -1,96 +1,58 @@
-// What a term contributes to an f64 row, written at its places in the arrays of contributions.
+// What a term contributes to a row, found from its masks: over any numbers.
 #![tactic(auto)]
 
-ghost use Rattle.std.specs.Prelude.{◌≡◌, [], ◌∷◌};
-ghost use Rattle.rows.specs.HalfUnits.{minus_half_unit};
-ghost use Rattle.contributions.specs.Values.{Arrays, written, commutator_values, noise_values};
+ghost use Rattle.std.specs.Prelude.{◌≡◌, ℕ, min};
+ghost use Rattle.letters.specs.Matrices.{letters_of};
+ghost use Rattle.row_entries.specs.Answers.{most_spins};
+ghost use Rattle.row_entries.specs.Entries.{operator_entry};
+ghost use Rattle.rows.specs.Pairs.{pairs};
+ghost use Rattle.contributions.specs.Values.{whole_entry, half_entry, commutator_values, noise_values};
 
-use complex::Complex;
-use row_entries::{commutator_entries, noise_entries};
+use letters::Kind;
+use row_entries::{commutator_entries, noise_entries, operator_entry};
+use rows::Entry;
+use rows::number::Number;
+use term_sets::masks::Masks;
 
-// -1/2 times i to the power `power`.
-fn minus_half_unit(power: u8) -> Complex
-    ensures { result ≡ minus_half_unit power }
+// An entry of a matrix times a coefficient.
+fn whole<V: Number>(e: row_entries::Entry, c: V) -> Entry<V>
+    ensures { ◌≡◌ {A = ℕ × V} (result.column, result.value) (whole_entry V.numbers c (e.column, e.power)) }
 {
-    let u = complex::unit_of_i(power);
-    Complex {
-        re: -0.5 * u.re,
-        im: -0.5 * u.im,
+    Entry {
+        column: e.column,
+        value: c.scaled(e.power),
     }
 }
 
-// One contribution at a place; past the arrays nothing is written.
-pub fn put(
-    column: u64,
-    value: Complex,
-    at: usize,
-    columns: &mut [u64; 320],
-    re: &mut [f64; 320],
-    im: &mut [f64; 320],
-)
-    ensures { ◌≡◌ {A = Arrays} (columns.new, re.new, im.new) (written at ((column, value) ∷ []) (columns.old, re.old, im.old)) }
+// An entry of a matrix times -1/2 times a coefficient.
+fn half<V: Number>(e: row_entries::Entry, c: V) -> Entry<V>
+    ensures { ◌≡◌ {A = ℕ × V} (result.column, result.value) (half_entry V.numbers c (e.column, e.power)) }
 {
-    if 320 <= at {
-        return;
+    Entry {
+        column: e.column,
+        value: c.minus_half(e.power),
     }
-    columns[at] = column;
-    re[at] = value.re;
-    im[at] = value.im;
 }
 
-// The two contributions of a term with these masks to a commutator's row, from a place on: its left half, then its right half. Where the
-// arrays have not both places nothing is written.
-pub fn put_commutator(
-    masks: u64,
-    c: Complex,
-    spins: u32,
-    row: u64,
-    at: usize,
-    columns: &mut [u64; 320],
-    re: &mut [f64; 320],
-    im: &mut [f64; 320],
-)
-    ensures { ◌≡◌ {A = Arrays} (columns.new, re.new, im.new) (written at (commutator_values masks c spins row) (columns.old, re.old, im.old)) }
+// Of a product with these masks to an operator's row.
+pub fn of_operator<V: Number>(kind: Kind, masks: u64, c: V, spins: u32, row: u64) -> Entry<V>
+    ensures { ◌≡◌ {A = ℕ × V} (result.column, result.value) (whole_entry V.numbers c (operator_entry (letters_of kind) masks (min spins most_spins) row)) }
 {
-    if 318 < at {
-        return;
-    }
+    whole(operator_entry(kind, masks, spins, row), c)
+}
+
+// Of a Pauli product with these masks to a commutator's row: its left half, then its right half.
+pub fn of_commutator<V: Number>(masks: u64, c: V, spins: u32, row: u64) -> [Entry<V>; 2]
+    ensures { pairs result ≡ commutator_values V.numbers masks c spins row }
+{
     let e = commutator_entries(masks, spins, row);
-    let left = e.left;
-    let right = e.right;
-    let a = c.product(complex::unit_of_i(left.power));
-    let b = c.product(complex::unit_of_i(right.power));
-    put(left.column, a, at, columns, re, im);
-    put(right.column, b, at + 1, columns, re, im);
+    [whole(e.left, c), whole(e.right, c)]
 }
 
-// The three contributions of a noise term whose sides have the masks `left` and `right`, from a place on. Where the arrays
-// have not all three places nothing is written.
-pub fn put_noise(
-    left: u64,
-    right: u64,
-    c: Complex,
-    spins: u32,
-    row: u64,
-    at: usize,
-    columns: &mut [u64; 320],
-    re: &mut [f64; 320],
-    im: &mut [f64; 320],
-)
-    ensures { ◌≡◌ {A = Arrays} (columns.new, re.new, im.new) (written at (noise_values left right c spins row) (columns.old, re.old, im.old)) }
+// Of a pair of decoherence products with these masks to a noise row: the jump, then -1/2 of R†L on the left half, then on the right.
+pub fn of_noise<V: Number>(masks: Masks, c: V, spins: u32, row: u64) -> [Entry<V>; 3]
+    ensures { pairs result ≡ noise_values V.numbers masks.left masks.right c spins row }
 {
-    if 317 < at {
-        return;
-    }
-    let e = noise_entries(left, right, spins, row);
-    let jump = e.jump;
-    let on_left = e.left;
-    let on_right = e.right;
-    let a = c.product(complex::unit_of_i(jump.power));
-    let b = c.product(minus_half_unit(on_left.power));
-    let d = c.product(minus_half_unit(on_right.power));
-    put(jump.column, a, at, columns, re, im);
-    let next = at + 1;
-    put(on_left.column, b, next, columns, re, im);
-    put(on_right.column, d, next + 1, columns, re, im);
+    let e = noise_entries(masks.left, masks.right, spins, row);
+    [whole(e.jump, c), half(e.left, c), half(e.right, c)]
 }

@@ -1,13 +1,14 @@
 -- What the exact row call gives: the entries of the superoperator of the system's terms.
 -- Assumes nothing.
 use Prim.Native.Nat.{ℕ, ◌*◌, ◌/◌, ◌%◌, ◌^◌, ◌<◌}
-use mathlib.Core.Path.{◌≡◌, refl, sym, ap, ap₂, ◌∙◌}
+use mathlib.Core.Path.{◌≡◌, sym, ap, ap₂, ◌∙◌}
 use mathlib.Core.Bool.{false}
 use mathlib.Core.List.{List, [], ◌∷◌, ◌++◌, map}
 use Rattle.letters.specs.Gauss.{G}
 use Rattle.items.specs.declared.Items.{Items}
 use Rattle.terms.specs.Keyed.{concat_map}
 use Rattle.terms.proofs.KeyedLaws.{All, all_nil, all_cons}
+use Rattle.terms.proofs.NestedLaws.{concat_map-map}
 use Rattle.row_entries.specs.PairColumns.{pair_column}
 use Rattle.master_equation.specs.Sums.{sum_at, value_at}
 use Rattle.rows.proofs.PlacingLaws.{row_in_value}
@@ -28,11 +29,6 @@ use Rattle.exact_entries.proofs.RowValues.{whole_contributions, row-sum}
 use Rattle.exact_entries.proofs.PassedLaws.{products, Passed, passed}
 
 -- ---- the contributions are those of the terms with whole coefficients
-
-concat_map-map : {A B C : Type 0} (f : A → B) (g : B → List C) (l : List A) → concat_map g (map f l) ≡ concat_map (λ x. g (f x)) l
-unfolding concat_map
-concat_map-map f g [] = refl
-concat_map-map f g (x ∷ l) = ap (λ m. g (f x) ++ m) (concat_map-map f g l)
 
 pub contributions : (n r : ℕ) (h : PauliHamiltonian) (w : NoiseSet) → exact_contributions n r (hamiltonian_terms h) (pairs.held_by w) ≡ whole_contributions n r (whole_hamiltonian h) (whole_noise w)
 unfolding exact_contributions whole_contributions whole_hamiltonian whole_noise

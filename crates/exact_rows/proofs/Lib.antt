@@ -1,3 +1,3 @@
 pub mod CoefficientLaws
 pub mod ExactWritingLaws
-pub mod ExactSystemLaws
+pub mod SumLaws

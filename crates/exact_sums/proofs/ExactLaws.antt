@@ -1,43 +1,76 @@
--- Contributions of whole numbers: their sizes place by place, the bound that a sum of k of them keeps, and a call that delivers an exact row.
--- Assumes nothing.
-use Prim.Native.Nat.{ℕ, zero, suc, ◌+◌, ◌*◌, ◌^◌, ◌≤◌, ◌<◌}
-use native.Mathlib.Nat.{not-suc-le-zero, le_of_suc-le-suc, eq-or-lt_of_le}
+-- What the code computes of small numbers is exact: what a coefficient contributes, and the sums of at most 320 contributions. Assumes nothing.
+use Prim.Native.Nat.{ℕ, ◌+◌, ◌*◌, ◌^◌, ◌≤◌, ◌<◌}
 use native.Mathlib.Omega.{arith}
-use mathlib.Core.Logic.{⊎_elim}
-use mathlib.Core.Path.{◌≡◌, refl, sym, ap, ◌∙◌, subst}
-use mathlib.Core.Bool.{Bool, true, false, ◌&&◌}
-use mathlib.Core.List.{List, [], ◌∷◌, ◌++◌}
-use lib.Dec.{leb}
-use lib.IntN.{ℤ, nat_abs}
-use lib.ListN.{length, get_or, take}
-use borrow.Author.Tests.{le-leb, lt-leb}
-use Rattle.refusal.specs.Refusals.{Said, gives, refuses}
-use Rattle.letters.specs.Gauss.{G, ◌⊕◌}
-use Rattle.letters.specs.Tests.{every}
-use Rattle.letters.proofs.TestLaws.{and_true, and_left, and_right, bool_ext, every-at, every_intro, every_more, every_false}
-use Rattle.rows.specs.Placing.{row_in}
-use Rattle.sorted_lists.specs.Sorting.{All, sorted, up_to}
-use Rattle.rows.specs.Buffers.{most_entries, value_in, entries_in}
+use mathlib.Core.Path.{◌≡◌, refl, sym, ap, ap₂, ◌∙◌}
+use mathlib.Core.Bool.{Bool, true, false, cond}
+use mathlib.Core.List.{List, [], ◌∷◌, ◌++◌, map}
+use lib.IntN.{nat_abs}
+use lib.ListN.{length}
+use lib.Dec.{eqb, ltb}
+use Rattle.letters.specs.Gauss.{G, 𝟙, −𝟙, ◌⊕◌, ⊝, ◌⊗◌, i^}
+use Rattle.letters.proofs.GaussLaws.{⊗_assoc, ⊕_⊗, 𝟙_⊗, ⊝-𝟙, ⊝_⊗}
+use Rattle.letters.proofs.TestLaws.{and_true, and_left, and_right}
+use Rattle.master_equation.specs.Equation.{𝟚}
 use Rattle.master_equation.specs.Numbers.{halves}
-use Rattle.exact_sums.specs.ExactSums.{whole_parts, exact_entries, within, largest_contribution, all_small, exact_answer, ExactCall}
-use Rattle.rows.proofs.ArrayLaws.{Faithful, length-entries_in}
-use Rattle.sorted_lists.proofs.SortLaws.{all_sorted}
-use Rattle.sorted_lists.proofs.RunLaws.{all_append}
-use Rattle.rows.proofs.CallLaws.{contributions_refused, contributions_taken, row-given}
-use Rattle.exact_sums.proofs.HalfLaws.{within-re, within-im, abs_sum}
+use Rattle.rows.specs.Buffers.{most_entries}
+use Rattle.rows.specs.Placing.{placed, place_all, row_of, nonzero, kept_by, row_in}
+use Rattle.rows.proofs.PlacingLaws.{placed_cases}
+use Rattle.exact_sums.specs.ExactSums.{within, largest_contribution, all_small}
+use Rattle.exact_sums.specs.Wrapped.{turned, sum_of, wrapped}
+use Rattle.exact_sums.specs.Exact.{exact_pair}
+use Rattle.exact_sums.specs.declared.Halves.{Halves}
+use Rattle.exact_sums.proofs.HalfLaws.{abs_neg, abs_sum, within-re, within-im, within_both, number, minus_exact, sum_exact, zero_exact}
+use Rattle.exact_sums.proofs.UnitLaws.{unit-within, turned_exact}
 
-pub wholes_faithful : Faithful whole_parts
-wholes_faithful = record { real = λ x y. refl; imaginary = λ x y. refl; whole = λ z. refl }
+-- ---- what a coefficient contributes: z is i^k c
 
--- ---- lists whose every element has P
+module _ (k : ℕ) (c : G) {z : G} (e : z ≡ i^ k ⊗ c) where
+  scaled_is : z ⊕ z ≡ halves.scaled k c
+  unfolding 𝟚
+  scaled_is = ap (λ (w : G). w ⊕ w) e ∙ sym (⊗_assoc (𝟙 ⊕ 𝟙) (i^ k) c ∙ ⊕_⊗ 𝟙 𝟙 (i^ k ⊗ c) ∙ ap₂ ◌⊕◌ (𝟙_⊗ (i^ k ⊗ c)) (𝟙_⊗ (i^ k ⊗ c)))
 
-module _ {A : Type 0} (P : A → Type 0) where
-  -- the element at a place before n
-  pub all_take : (l : List A) (n k : ℕ) (d : A) → k < n → k < length l → All P (take n l) → P (get_or l k d)
-  all_take [] n k d h i q = absurd (not-suc-le-zero i)
-  all_take (x ∷ l) zero k d h i q = absurd (not-suc-le-zero h)
-  all_take (x ∷ l) (suc n) zero d h i q = q.0
-  all_take (x ∷ l) (suc n) (suc k) d h i q = all_take l n k d (le_of_suc-le-suc h) (le_of_suc-le-suc i) q.1
+  minus_is : ⊝ z ≡ halves.minus_half k c
+  minus_is = ap ⊝ e ∙ sym (⊗_assoc −𝟙 (i^ k) c ∙ ap (λ (u : G). u ⊗ (i^ k ⊗ c)) (sym ⊝-𝟙) ∙ ⊝_⊗ 𝟙 (i^ k ⊗ c) ∙ ap ⊝ (𝟙_⊗ (i^ k ⊗ c)))
+
+-- where twice the coefficient is a small contribution
+module _ (m : ℕ) (few : m + m ≤ largest_contribution) where
+  -- its contributions are small
+  module _ (c : G) (h : within m c ≡ true) (k : ℕ) where
+    pub scaled_small : within largest_contribution (halves.scaled k c) ≡ true
+    unfolding ◌⊕◌
+    scaled_small =
+        let w = i^ k ⊗ c in
+        let s = unit-within m k c h in
+        ap (within largest_contribution) (sym (scaled_is k c refl))
+        ∙ within_both largest_contribution (w ⊕ w) (omega (arith, abs_sum w.re w.re, within-re m w s)) (omega (arith, abs_sum w.im w.im, within-im m w s))
+
+    pub minus_small : within largest_contribution (halves.minus_half k c) ≡ true
+    unfolding ⊝
+    minus_small =
+        let w = i^ k ⊗ c in
+        let s = unit-within m k c h in
+        ap (within largest_contribution) (sym (minus_is k c refl))
+        ∙ within_both largest_contribution (⊝ w) (omega (arith, abs_neg w.re, within-re m w s)) (omega (arith, abs_neg w.im, within-im m w s))
+
+  -- and the code computes them
+  module _ (c : Halves) (h : within m (number c) ≡ true) (k : ℕ) where
+    turns : number (turned k c) ≡ i^ k ⊗ number c
+    turns = turned_exact c (omega (arith, within-re m (number c) h)) (omega (arith, within-im m (number c) h)) k
+
+    stays : within m (number (turned k c)) ≡ true
+    stays = ap (within m) turns ∙ unit-within m k (number c) h
+
+    turned-re : nat_abs (turned k c).re ≤ m
+    turned-re = within-re m (number (turned k c)) stays
+
+    turned-im : nat_abs (turned k c).im ≤ m
+    turned-im = within-im m (number (turned k c)) stays
+
+    pub scaled_exact : number (wrapped.scaled k c) ≡ halves.scaled k (number c)
+    scaled_exact = sum_exact (turned k c) (turned k c) (omega (arith, turned-re)) (omega (arith, turned-im)) ∙ scaled_is k (number c) turns
+
+    pub minus_half_exact : number (wrapped.minus_half k c) ≡ halves.minus_half k (number c)
+    minus_half_exact = minus_exact (turned k c) (omega (arith, turned-re)) (omega (arith, turned-im)) ∙ minus_is k (number c) turns
 
 -- ---- small contributions
 
@@ -55,133 +88,93 @@ small_append [] b p q = q
 small_append (x ∷ a) b p q =
     and_true (and_left (within largest_contribution x.1) (all_small a) p) (small_append a b (and_right (within largest_contribution x.1) (all_small a) p) q)
 
-small_parts : (a : List (ℕ × G)) (e : ℕ × G) → all_small (a ++ e ∷ []) ≡ true → (all_small a ≡ true) × (within largest_contribution e.1 ≡ true)
-unfolding all_small
-small_parts [] e p = (refl, and_left (within largest_contribution e.1) true p)
-small_parts (x ∷ a) e p =
-    let rest = small_parts a e (and_right (within largest_contribution x.1) (all_small (a ++ e ∷ [])) p) in
-    (and_true (and_left (within largest_contribution x.1) (all_small (a ++ e ∷ [])) p) rest.0, rest.1)
+-- ---- sums of at most 320 of them
 
--- place by place
-module _ (cs : List ℕ) (xs ys : List ℤ) where
-  abbrev Small : ℕ → Type 0
-  Small p = within largest_contribution (value_in whole_parts xs ys p) ≡ true
+-- every number of a row is within a size
+Sums : ℕ → List (ℕ × Halves) → Type 0
+Sums m [] = Unit {0}
+Sums m (x ∷ xs) = (within m (number x.1) ≡ true) × Sums m xs
 
-  small_places : (n : ℕ) → all_small (exact_entries cs xs ys n) ≡ true → All Small (up_to n)
-  unfolding entries_in up_to
-  small_places zero e = tt
-  small_places (suc n) e =
-      let p = small_parts (exact_entries cs xs ys n) (get_or cs n 0, value_in whole_parts xs ys n) e in
-      all_append Small (up_to n) (n ∷ []) (small_places n p.0) (p.1, tt)
+grown : (m : ℕ) (z : G) → within m z ≡ true → within (m + largest_contribution) z ≡ true
+grown m z h = within_both (m + largest_contribution) z (omega (arith, within-re m z h)) (omega (arith, within-im m z h))
 
-  -- in the order of sorted places too
-  pub small_sorted : (key : ℕ → ℕ) (places : List ℕ) (n : ℕ) → take n places ≡ sorted key (up_to n) → all_small (exact_entries cs xs ys n) ≡ true → All Small (take n places)
-  small_sorted key places n e s = rw e (all_sorted key Small (up_to n) (small_places n s))
+all_grown : (m : ℕ) (l : List (ℕ × Halves)) → Sums m l → Sums (m + largest_contribution) l
+unfolding Sums
+all_grown m [] h = tt
+all_grown m (x ∷ xs) h = (grown m (number x.1) h.0, all_grown m xs h.1)
 
-  small_entries : (n : ℕ) → ((i : ℕ) → i < n → Small i) → all_small (exact_entries cs xs ys n) ≡ true
-  unfolding entries_in
-  small_entries zero f = small_none
-  small_entries (suc n) f =
-      small_append (exact_entries cs xs ys n) ((get_or cs n 0, value_in whole_parts xs ys n) ∷ []) (small_entries n (λ i h. f i (omega arith)))
-      (small_cons (get_or cs n 0, value_in whole_parts xs ys n) [] (f n (omega arith)) small_none)
+-- a small contribution more
+module _ (m : ℕ) (room : m + largest_contribution < 2 ^ 63) (e : ℕ × Halves) (small : within largest_contribution (number e.1) ≡ true) where
+  fits : (z : Halves) → within m (number z) ≡ true → number (sum_of z e.1) ≡ number z ⊕ number e.1
+  fits z h =
+      sum_exact z e.1
+      (omega (arith, within-re m (number z) h, within-re largest_contribution (number e.1) small))
+      (omega (arith, within-im m (number z) h, within-im largest_contribution (number e.1) small))
 
-  small_at : (n : ℕ) → all_small (exact_entries cs xs ys n) ≡ true → (i : ℕ) → i < n → Small i
-  unfolding entries_in
-  small_at zero e i h = absurd (not-suc-le-zero h)
-  small_at (suc n) e i h =
-      let p = small_parts (exact_entries cs xs ys n) (get_or cs n 0, value_in whole_parts xs ys n) e in
-      let l : i ≤ n = omega arith in
-      ⊎_elim (λ q. subst Small (sym q) p.1) (λ q. small_at n p.0 i q) (eq-or-lt_of_le l)
-
-  -- tested place by place
-  pub every_small : (n : ℕ) → every n (λ i. within largest_contribution (value_in whole_parts xs ys i)) ≡ all_small (exact_entries cs xs ys n)
-  every_small n =
-      bool_ext (every n (λ i. within largest_contribution (value_in whole_parts xs ys i))) (all_small (exact_entries cs xs ys n))
-      (λ e. small_entries n (every-at n (λ i. within largest_contribution (value_in whole_parts xs ys i)) e))
-      (λ e. every_intro n (λ i. within largest_contribution (value_in whole_parts xs ys i)) (small_at n e))
-
--- the loop that tests them: every contribution before the place i is small
-pub record Tested (xs ys : List ℤ) (n i : ℕ) : Type 0 where
-  pub reached : i ≤ n
-  pub small : every i (λ k. within largest_contribution (value_in whole_parts xs ys k)) ≡ true
-
-pub tested_none : (xs ys : List ℤ) (n : ℕ) → Tested xs ys n 0
-unfolding every
-tested_none xs ys n = record { reached = omega arith; small = refl }
-
-module _ {xs ys : List ℤ} {n i : ℕ} (s : Tested xs ys n i) where
-  pub tested_more : i < n → {t : Bool} → t ≡ within largest_contribution (value_in whole_parts xs ys i) → t ≡ true → Tested xs ys n (i + 1)
-  tested_more h e q =
-      record { reached = omega arith; small = every_more i (λ k. within largest_contribution (value_in whole_parts xs ys k)) s.small (sym e ∙ q) }
-
-  pub tested_large : i < n → {t : Bool} → t ≡ within largest_contribution (value_in whole_parts xs ys i) → t ≡ false
-      → false ≡ every n (λ k. within largest_contribution (value_in whole_parts xs ys k))
-  tested_large h e q = sym (every_false n (λ k. within largest_contribution (value_in whole_parts xs ys k)) i h (sym e ∙ q))
-
-  pub tested_done : n ≤ i → true ≡ every n (λ k. within largest_contribution (value_in whole_parts xs ys k))
-  tested_done h =
-      let e : n ≡ i = omega (arith, s.reached) in
-      sym (ap (λ (m : ℕ). every m (λ k. within largest_contribution (value_in whole_parts xs ys k))) e ∙ s.small)
-
--- ---- a sum of at most k contributions
-
-pub record Bounded (k : ℕ) (z : G) : Type 0 where
-  pub reals : nat_abs z.re ≤ k * largest_contribution
-  pub imaginaries : nat_abs z.im ≤ k * largest_contribution
-
-pub bounded_one : (k : ℕ) (z : G) → within largest_contribution z ≡ true → Bounded (k + 1) z
-bounded_one k z e = record { reals = omega (arith, within-re largest_contribution z e); imaginaries = omega (arith, within-im largest_contribution z e) }
-
-module _ {k : ℕ} {a : G} (s : Bounded k a) (b : G) (e : within largest_contribution b ≡ true) where
-  pub bounded_more : Bounded (k + 1) (a ⊕ b)
+  sum_within : (z : Halves) → within m (number z) ≡ true → within (m + largest_contribution) (number (sum_of z e.1)) ≡ true
   unfolding ◌⊕◌
-  bounded_more =
-      record {
-        reals = omega (arith, abs_sum a.re b.re, s.reals, within-re largest_contribution b e);
-        imaginaries = omega (arith, abs_sum a.im b.im, s.imaginaries, within-im largest_contribution b e);
-      }
+  sum_within z h =
+      let a = number z in
+      let b = number e.1 in
+      ap (within (m + largest_contribution)) (fits z h)
+      ∙ within_both (m + largest_contribution) (a ⊕ b)
+      (omega (arith, abs_sum a.re b.re, within-re m a h, within-re largest_contribution b small))
+      (omega (arith, abs_sum a.im b.im, within-im m a h, within-im largest_contribution b small))
 
-  -- one more of at most 320 fits
-  pub re_fits : k < 320 → nat_abs a.re + nat_abs b.re < 2 ^ 63
-  re_fits h = omega (arith, s.reals, within-re largest_contribution b e)
+  one_within : within (m + largest_contribution) (number e.1) ≡ true
+  one_within =
+      within_both (m + largest_contribution) (number e.1)
+      (omega (arith, within-re largest_contribution (number e.1) small))
+      (omega (arith, within-im largest_contribution (number e.1) small))
 
-  pub im_fits : k < 320 → nat_abs a.im + nat_abs b.im < 2 ^ 63
-  im_fits h = omega (arith, s.imaginaries, within-im largest_contribution b e)
+  placed_within : (l : List (ℕ × Halves)) → Sums m l → Sums (m + largest_contribution) (placed sum_of e l)
+  unfolding placed Sums
+  placed_within [] h = (one_within, tt)
+  placed_within (x ∷ xs) h =
+      placed_cases sum_of (Sums (m + largest_contribution)) e x xs
+      (λ p. (grown m (number x.1) h.0, placed_within xs h.1))
+      (λ p. (sum_within x.1 h.0, all_grown m xs h.1))
+      (λ p. (one_within, all_grown m (x ∷ xs) h))
 
--- ---- what a call answers
+  placed_exact : (l : List (ℕ × Halves)) → Sums m l → map exact_pair (placed sum_of e l) ≡ placed ◌⊕◌ (exact_pair e) (map exact_pair l)
+  unfolding placed Sums
+  placed_exact [] h = refl
+  placed_exact (x ∷ xs) h = go (placed_exact xs h.1) (ltb x.0 e.0) (eqb x.0 e.0)
+    where
+      go : map exact_pair (placed sum_of e xs) ≡ placed ◌⊕◌ (exact_pair e) (map exact_pair xs) → (s t : Bool)
+          → map exact_pair (cond s (x ∷ placed sum_of e xs) (cond t ((x.0, sum_of x.1 e.1) ∷ xs) (e ∷ x ∷ xs)))
+          ≡ cond s (exact_pair x ∷ placed ◌⊕◌ (exact_pair e) (map exact_pair xs))
+          (cond t ((x.0, number x.1 ⊕ number e.1) ∷ map exact_pair xs) (exact_pair e ∷ exact_pair x ∷ map exact_pair xs))
+      go rest true t = ap (λ (l : List (ℕ × G)). exact_pair x ∷ l) rest
+      go rest false true = ap (λ (z : G). (x.0, z) ∷ map exact_pair xs) (fits x.1 h.0)
+      go rest false false = refl
 
--- the tests of the contributions l
-good_is : (l : List (ℕ × G)) → length l ≤ most_entries → {s : Bool} → all_small l ≡ s → (leb (length l) most_entries && all_small l) ≡ s
-good_is l h e = rw (le-leb (length l) most_entries h) e
+-- contributions one after the other, where the row is of k contributions
+all_exact : (k : ℕ) (es row : List (ℕ × Halves)) → k + length es ≤ most_entries → all_small (map exact_pair es) ≡ true → Sums (k * largest_contribution) row
+    → map exact_pair (place_all sum_of es row) ≡ place_all ◌⊕◌ (map exact_pair es) (map exact_pair row)
+unfolding place_all all_small
+all_exact k [] row few small h = refl
+all_exact k (e ∷ es) row few small h =
+    let one = and_left (within largest_contribution (number e.1)) (all_small (map exact_pair es)) small in
+    let rest = and_right (within largest_contribution (number e.1)) (all_small (map exact_pair es)) small in
+    let m = k * largest_contribution in
+    let room : m + largest_contribution < 2 ^ 63 = omega arith in
+    let next : m + largest_contribution ≡ (k + 1) * largest_contribution = omega arith in
+    all_exact (k + 1) es (placed sum_of e row) (omega arith) rest (rw (← next) (placed_within m room e one row h))
+    ∙ ap (place_all ◌⊕◌ (map exact_pair es)) (placed_exact m room e one row h)
 
--- small contributions, at most 320 of them, in three arrays: their row is delivered
-pub exact_delivered : (cs : List ℕ) (xs ys : List ℤ) (n : ℕ) → n ≤ most_entries → {l : List (ℕ × G)} → exact_entries cs xs ys n ≡ l → all_small l ≡ true
-    → {r : Said ℕ} {a a' : List ℕ} {b b' c c' : List ℤ} → ExactCall (exact_answer (exact_entries cs xs ys n)) r a a' b b' c c' → ExactCall (gives (row_in halves false l)) r a a' b b' c c'
-unfolding exact_answer
-exact_delivered cs xs ys n h {l} e s d =
-    let few : length l ≤ most_entries = omega (arith, length-entries_in whole_parts cs xs ys n, ap length e) in
-    row-given (ap (λ (x : List (ℕ × G)). leb (length x) most_entries && all_small x) e ∙ good_is l few s) (ap (row_in halves false) e) d
+nonzero_exact : (l : List (ℕ × Halves)) → map exact_pair (nonzero wrapped.is_zero l) ≡ nonzero halves.is_zero (map exact_pair l)
+unfolding nonzero
+nonzero_exact [] = refl
+nonzero_exact (x ∷ xs) = go (nonzero_exact xs) (wrapped.is_zero x.1) ∙ ap (λ (t : Bool). cond t (nonzero halves.is_zero (map exact_pair xs)) (exact_pair x ∷ nonzero halves.is_zero (map exact_pair xs))) (zero_exact x.1)
+  where
+    go : map exact_pair (nonzero wrapped.is_zero xs) ≡ nonzero halves.is_zero (map exact_pair xs) → (t : Bool) → map exact_pair (cond t (nonzero wrapped.is_zero xs) (x ∷ nonzero wrapped.is_zero xs))
+        ≡ cond t (nonzero halves.is_zero (map exact_pair xs)) (exact_pair x ∷ nonzero halves.is_zero (map exact_pair xs))
+    go rest true = rest
+    go rest false = ap (λ (l : List (ℕ × G)). exact_pair x ∷ l) rest
 
--- the first n entries of three arrays
-module _ (cs : List ℕ) (xs ys : List ℤ) (n : ℕ) where
-  pub exact_many : {a : List ℕ} {b c : List ℤ} → most_entries < n → ExactCall (exact_answer (exact_entries cs xs ys n)) (refuses 0 []) a a b b c c
-  unfolding exact_answer
-  exact_many h =
-      let l = exact_entries cs xs ys n in
-      contributions_refused (row_in halves false l) (ap (λ (t : Bool). t && all_small l) (ap (λ (k : ℕ). leb k most_entries) (length-entries_in whole_parts cs xs ys n) ∙ lt-leb n most_entries h))
-
-  module _ (h : n ≤ most_entries) {t : Bool} (e : t ≡ every n (λ i. within largest_contribution (value_in whole_parts xs ys i))) where
-    room : length (exact_entries cs xs ys n) ≤ most_entries
-    room = omega (arith, length-entries_in whole_parts cs xs ys n)
-
-    pub exact_large : {a : List ℕ} {b c : List ℤ} → t ≡ false → ExactCall (exact_answer (exact_entries cs xs ys n)) (refuses 0 []) a a b b c c
-    unfolding exact_answer
-    exact_large q = contributions_refused (row_in halves false (exact_entries cs xs ys n)) (good_is (exact_entries cs xs ys n) room (sym (every_small cs xs ys n) ∙ sym e ∙ q))
-
-    pub all_small_lem : t ≡ true → all_small (exact_entries cs xs ys n) ≡ true
-    all_small_lem q = sym (every_small cs xs ys n) ∙ sym e ∙ q
-
-    pub exact_row_lem : t ≡ true → {m : List (ℕ × G)} → m ≡ row_in halves false (exact_entries cs xs ys n) → {r : Said ℕ} {a a' : List ℕ} {b b' c c' : List ℤ} → ExactCall (gives m) r a a' b b' c c'
-        → ExactCall (exact_answer (exact_entries cs xs ys n)) r a a' b b' c c'
-    unfolding exact_answer
-    exact_row_lem q f d = contributions_taken (good_is (exact_entries cs xs ys n) room (all_small_lem q)) f d
+-- the row of at most 320 small contributions
+pub row_exact : (es : List (ℕ × Halves)) → length es ≤ most_entries → all_small (map exact_pair es) ≡ true
+    → map exact_pair (row_in wrapped false es) ≡ row_in halves false (map exact_pair es)
+unfolding row_in kept_by row_of
+row_exact es few small = nonzero_exact (place_all sum_of es []) ∙ ap (nonzero halves.is_zero) (all_exact 0 es [] (omega arith) small (unfold Sums in tt))

@@ -1,1 +1,3 @@
 pub mod ExactSums
+pub mod Wrapped
+pub mod Exact

@@ -24,7 +24,6 @@ use Rattle.master_equation.specs.Equation.{δ, 𝟚, commutator, adjoint_product
 use Rattle.rows.specs.HalfUnits.{minus_half_unit}
 use Rattle.master_equation.specs.Contributions.{operator_terms, commutator_terms, noise_terms}
 use Rattle.rows.specs.Placing.{placed, place_all, row_of, nonzero, kept_by, row_in}
-use Rattle.sorted_lists.specs.Sorting.{up_to}
 use Rattle.master_equation.specs.Sums.{value_at}
 use Rattle.rows.specs.Calls.{outside, unless_outside, checked_row}
 use Rattle.contributions.specs.TermContributions.{commutator_contributions, noise_contributions}
@@ -43,7 +42,7 @@ unfolding outcome table
     empty_product set_answer multiply_answer conjugate_answer convert_answer row_answer
     and_then compare_numbers compare_lists pairs key_of compare_items compare_answer
     δ 𝟚 commutator adjoint_product dissipator minus_half_unit operator_terms commutator_terms noise_terms
-    placed place_all row_of nonzero up_to value_at kept_by row_in outside unless_outside checked_row
+    placed place_all row_of nonzero value_at kept_by row_in outside unless_outside checked_row
     has each concat_map good_term valid_places filled is_blank valid_set
     commutator_contributions commutator_row_of hamiltonian_commutator_row sides_of noise_contributions noise_row
 every_case = refl

@@ -2,6 +2,7 @@
 -- matrices say. Document 01: "The ● cases form one table of inputs and outcomes, proved together from the matrix definitions and, for setting
 -- and `cmp`, from the rules above."
 use Rattle.std.specs.Prelude.{ℕ, ◌*◌, ◌/◌, ◌%◌, ◌^◌, true, false, List, [], ◌∷◌, map, ℤ, pos}
+use Rattle.std.specs.List.{range_with_len}
 use Rattle.std.specs.Float.{binary64}
 use Rattle.std.specs.Float.Ieee.{of_int}
 use Rattle.refusal.specs.Refusals.{Said, gives, refuses}
@@ -27,7 +28,6 @@ use Rattle.master_equation.specs.Numbers.{halves}
 use Rattle.master_equation.specs.Contributions.{operator_terms, commutator_terms, noise_terms}
 use Rattle.rows.specs.Floats.{in_floats}
 use Rattle.rows.specs.Placing.{row_in}
-use Rattle.sorted_lists.specs.Sorting.{up_to}
 use Rattle.hamiltonians.specs.Reals as reals
 use Rattle.operator_rows.specs.OperatorRows.{hamiltonian_commutator_row}
 use Rattle.noise_sets.specs.Pairs as pairs
@@ -66,6 +66,10 @@ pub data Outcome : Type 0 where
 -- a whole number as two f64
 abbrev pub f64 : G → Complex
 f64 z = in_floats z
+
+-- the numbers below n
+abbrev pub up_to : ℕ → List ℕ
+up_to n = range_with_len 0 n
 
 -- the entries of a d by d matrix, row by row
 abbrev pub entries_of : ℕ → (ℕ → ℕ → G) → List G

@@ -11,10 +11,9 @@ use Rattle.items.specs.Record.{capacity}
 use Rattle.ordering.specs.Orders.{less, greater}
 use Rattle.items.specs.declared.Items.{Items}
 use Rattle.master_equation.specs.Equation.{𝟚}
-use Rattle.sorted_lists.specs.Sorting.{up_to}
 use Rattle.master_equation.specs.Sums.{value_at}
 use Rattle.marked_cases.specs.Outcomes as cases
-use Rattle.marked_cases.specs.Outcomes.{Input, multiply_single, multiply, set_pauli, hermitian_conjugate, convert, cmp, product_row, noise_row, commutator_row, Outcome, f64, entries_of, matrix_of}
+use Rattle.marked_cases.specs.Outcomes.{Input, multiply_single, multiply, set_pauli, hermitian_conjugate, convert, cmp, product_row, noise_row, commutator_row, Outcome, f64, up_to, entries_of, matrix_of}
 
 -- ---- products
 

@@ -1,4 +1,3 @@
 pub mod MaskedLaws
 pub mod HandedLaws
-pub mod SystemRowLaws
 pub mod SystemTheorems

@@ -1,17 +1,16 @@
--- Terms as judging hands them out: what the code puts for each of them; masks joined, and that no product whose masks are joined in one that fits n spins
+-- Terms as judging hands them out: masks joined, and that no product whose masks are joined in one that fits n spins
 -- has a site at n or above.
 -- Assumes nothing.
-use Prim.Native.Nat.{ℕ, ◌+◌, ◌*◌, ◌/◌, ◌%◌, ◌^◌, ◌≤◌, ◌<◌, min}
+use Prim.Native.Nat.{ℕ, ◌+◌, ◌/◌, ◌%◌, ◌^◌, ◌≤◌, ◌<◌}
 use native.Mathlib.Nat.{le_trans}
 use native.Mathlib.Numerals.{add-one}
 use native.Mathlib.Omega.{arith}
-use mathlib.Core.Path.{◌≡◌, refl, sym, ap, subst, ◌∙◌}
+use mathlib.Core.Path.{◌≡◌, refl, subst, ◌∙◌}
 use mathlib.Core.List.{List, [], ◌∷◌, ◌++◌, map}
 use lib.Bits.{bit_or, and_le_l, and_le_r, or_add_and, or_mod, or_shr}
 use lib.Ieee.{Float}
-use lib.ListN.{length, take, get_or, get_or-map, length-map, length-take}
-use lib.Seq.{take-suc, get_or-take}
-use Rattle.std.proofs.lemmas.List as lists
+use lib.ListN.{length, take, get_or}
+use lib.Seq.{take-suc, take_all}
 use Rattle.complex.specs.declared.Complex.{Complex}
 use Rattle.items.specs.Record.{valid}
 use Rattle.items.specs.Masks.{masks_of, flip_of, sign_of}
@@ -20,51 +19,13 @@ use Rattle.items.proofs.MaskLaws.{reach_masked}
 use Rattle.terms.specs.Keyed.{concat_map}
 use Rattle.terms.proofs.KeyedLaws.{All, all_nil, all_cons, all_head, all_tail, all_map, each_head, each_tail}
 use Rattle.terms.proofs.EachLaws.{all_results}
-use Rattle.rows.specs.Buffers.{most_entries, Long, entries}
 use Rattle.rows.specs.Calls.{outside}
 use Rattle.term_sets.specs.Complexes.{Term, items_of}
 use Rattle.term_sets.specs.declared.judging.MaskedTerm.{MaskedTerm}
-use Rattle.term_sets.specs.declared.judging.MaskedTerms.{MaskedTerms}
-use Rattle.hamiltonians.specs.Reals.{complex_of}
 use Rattle.noise_sets.specs.Pairs.{NoiseTerm, sides, sides_of}
-use Rattle.contributions.specs.Values.{commutator_values, noise_values, Arrays, written}
-use Rattle.contributions.specs.TermContributions.{commutator_part, noise_part}
-use Rattle.contributions.proofs.WritingLaws.{commutator-written, noise-written}
-use Rattle.outside_sites.specs.Accepted.{Accepted}
 use Rattle.outside_sites.proofs.OutsideLaws.{outside_none, first_inside}
-use Rattle.outside_sites.proofs.AcceptedLaws.{AllValid, product_accepted, sides_accepted}
-use Rattle.open_rows.specs.Masked.{given, as_complex, masked, masked_pair}
-
--- ---- what the code puts for the term at the place i, m being the masked terms of a list
-
--- as many
-pub terms_long : (m : MaskedTerms Float) (l : List Term) → map as_complex (given m) ≡ map masked l → length l ≡ min m.count (length m.terms)
-terms_long m l e = sym (length-map l masked) ∙ ap length (sym e) ∙ length-map (given m) as_complex ∙ length-take m.count m.terms
-
-pub pairs_long : (m : MaskedTerms Complex) (l : List NoiseTerm) → given m ≡ map masked_pair l → length l ≡ min m.count (length m.terms)
-pairs_long m l e = sym (length-map l masked_pair) ∙ ap length (sym e) ∙ length-take m.count m.terms
-
-module _ (n r : ℕ) {i : ℕ} {cs cs' : List ℕ} {xs xs' ys ys' : List Float} (at : ℕ) (long : Long cs xs ys) where
-  pub commutator_next : (m : MaskedTerms Float) (l : List Term) → map as_complex (given m) ≡ map masked l → (b : MaskedTerm Float) (d : Term) → i < m.count → i < length l
-      → Accepted n (2 ^ n * 2 ^ n) r (items_of l) → at + 2 ≤ most_entries → {c : Complex} → c ≡ complex_of (get_or m.terms i b).coefficient
-      → ◌≡◌ {A = Arrays} (cs', xs', ys') (written at (commutator_values (get_or m.terms i b).masks.left c n r) (cs, xs, ys))
-      → entries cs' xs' ys' (at + 2) ≡ entries cs xs ys at ++ commutator_part n r (get_or l i d)
-  commutator_next m l e b d h k ok room f =
-      let z = as_complex b in
-      let q =
-      ap as_complex (sym (get_or-take m.count m.terms i b h))
-      ∙ sym (get_or-map as_complex (given m) i b)
-      ∙ ap (λ u. get_or u i z) e
-      ∙ lists.get_or-map masked l i d z k in
-      commutator-written (get_or l i d) n r (ap (λ t. t.masks.left) q) (f ∙ ap (λ t. t.coefficient) q) (product_accepted l i d k ok) at room long
-
-  pub noise_next : (m : MaskedTerms Complex) (l : List NoiseTerm) → given m ≡ map masked_pair l → (b : MaskedTerm Complex) (d : NoiseTerm) → i < m.count → i < length l
-      → Accepted n (2 ^ n * 2 ^ n) r (sides_of l) → at + 3 ≤ most_entries
-      → ◌≡◌ {A = Arrays} (cs', xs', ys') (written at (noise_values (get_or m.terms i b).masks.left (get_or m.terms i b).masks.right (get_or m.terms i b).coefficient n r) (cs, xs, ys))
-      → entries cs' xs' ys' (at + 3) ≡ entries cs xs ys at ++ noise_part n r (get_or l i d)
-  noise_next m l e b d h k ok room =
-      let q = sym (get_or-take m.count m.terms i b h) ∙ ap (λ u. get_or u i b) e ∙ lists.get_or-map masked_pair l i d b k in
-      noise-written (get_or l i d) n r (ap (λ t. t.masks.left) q) (ap (λ t. t.masks.right) q) (ap (λ t. t.coefficient) q) (sides_accepted l i d k ok) at room long
+use Rattle.outside_sites.proofs.AcceptedLaws.{AllValid}
+use Rattle.open_rows.specs.Masked.{as_complex, masked, masked_pair}
 
 -- ---- masks joined
 
@@ -136,14 +97,14 @@ module _ (n all : ℕ) (f : (all % 2 ^ 32 < 2 ^ n) × (all / 2 ^ 32 < 2 ^ n)) wh
       ∙ sides_inside w (each_tail (λ p qs. valid p) t.key.1 (concat_map sides w) v') (all_tail (BothBelow all) (masked_pair t) (map masked_pair w) a)
 
   -- the masks of all terms are joined
-  pub terms_done : (m : MaskedTerms Float) {i : ℕ} → i ≡ m.count → All (LeftBelow all) (take i m.terms) → (h : List Term) → AllValid (items_of h) → map as_complex (given m) ≡ map masked h
+  pub terms_done : {l m : List (MaskedTerm Float)} {i : ℕ} → l ≡ m → length l ≤ i → All (LeftBelow all) (take i l) → (h : List Term) → AllValid (items_of h) → map as_complex m ≡ map masked h
       → outside n (items_of h) ≡ []
-  terms_done m e a h v g =
+  terms_done {l} {m} {i} is e a h v g =
       terms_inside h v
       (subst (All (LeftBelow all)) g
-      (all_results (LeftBelow all) (LeftBelow all) as_complex (λ t b. record { left = b.left }) (given m) (subst (λ i. All (LeftBelow all) (take i m.terms)) e a)))
+      (all_results (LeftBelow all) (LeftBelow all) as_complex (λ t b. record { left = b.left }) m (subst (All (LeftBelow all)) (take_all i l e ∙ is) a)))
 
-  pub pairs_done : (m : MaskedTerms Complex) {i : ℕ} → i ≡ m.count → All (BothBelow all) (take i m.terms) → (w : List NoiseTerm) → AllValid (sides_of w) → given m ≡ map masked_pair w
+  pub pairs_done : {l m : List (MaskedTerm Complex)} {i : ℕ} → l ≡ m → length l ≤ i → All (BothBelow all) (take i l) → (w : List NoiseTerm) → AllValid (sides_of w) → m ≡ map masked_pair w
       → outside n (sides_of w) ≡ []
   unfolding sides_of
-  pairs_done m e a w v g = sides_inside w v (subst (All (BothBelow all)) g (subst (λ i. All (BothBelow all) (take i m.terms)) e a))
+  pairs_done {l} {i = i} is e a w v g = sides_inside w v (subst (All (BothBelow all)) (take_all i l e ∙ is ∙ g) a)

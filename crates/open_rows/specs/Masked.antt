@@ -1,18 +1,13 @@
 -- Terms as judging a set hands them out: each one's masks and coefficient.
-use Rattle.std.specs.Prelude.{List, take, Float}
+use Rattle.std.specs.Prelude.{Float}
 use Rattle.complex.specs.Coefficients.{complexes}
 use Rattle.complex.specs.declared.Complex.{Complex}
 use Rattle.term_sets.specs.Keys.{item_keys, pair_keys}
 use Rattle.term_sets.specs.Sets.{masked_term}
 use Rattle.term_sets.specs.Complexes.{Term}
 use Rattle.term_sets.specs.declared.judging.MaskedTerm.{MaskedTerm}
-use Rattle.term_sets.specs.declared.judging.MaskedTerms.{MaskedTerms}
 use Rattle.hamiltonians.specs.Reals.{complex_of}
 use Rattle.noise_sets.specs.Pairs.{NoiseTerm}
-
--- the terms that are there
-abbrev pub given : {N : Type 0} → MaskedTerms N → List (MaskedTerm N)
-given m = take m.count m.terms
 
 -- a real coefficient as a complex one
 abbrev pub as_complex : MaskedTerm Float → MaskedTerm Complex

@@ -3,11 +3,10 @@ ghost use Rattle.std.specs.Prelude.{◌≡◌, true, List, [], map, ◌≤◌, �
 ghost use Rattle.items.specs.Record.{valid};
 ghost use Rattle.row_entries.specs.Answers.{most_spins};
 ghost use Rattle.terms.specs.Keyed.{each};
-ghost use Rattle.terms.specs.Setting.{most_terms};
 ghost use Rattle.rows.specs.Calls.{outside};
 ghost use Rattle.noise_sets.specs.Pairs.{NoiseTerm, sides_of};
 ghost use Rattle.term_sets.specs.Complexes.{Term, items_of};
-ghost use Rattle.open_rows.specs.Masked.{given, as_complex, masked, masked_pair};
+ghost use Rattle.open_rows.specs.Masked.{as_complex, masked, masked_pair};
 
 use items::masks::MASK_SIZE;
 use row_entries::size_of;
@@ -24,24 +23,24 @@ fn is_below(masks: u64, spins: u32) -> bool
 
 // Whether the masks of a Hamiltonian's terms are: then no valid product with these masks has a site at `spins` or above.
 pub(crate) fn terms_fit(terms: &MaskedTerms<f64>, spins: u32) -> bool
-    requires { (terms.now.count ≤ most_terms) × (spins ≤ most_spins) }
-    ensures { result ≡ true → (h : List Term) → each (λ p qs. valid p) (items_of h) ≡ true → map as_complex (given terms.now) ≡ map masked h → outside spins (items_of h) ≡ [] }
+    requires { spins ≤ most_spins }
+    ensures { result ≡ true → (h : List Term) → each (λ p qs. valid p) (items_of h) ≡ true → map as_complex terms.now.items ≡ map masked h → outside spins (items_of h) ≡ [] }
 {
     let mut all: u64 = 0;
-    for i in 0..terms.count {
-        all = all | terms.terms[i].masks.left;
+    for t in terms.as_slice() {
+        all = all | t.masks.left;
     }
     is_below(all, spins)
 }
 
 // Whether the masks of both sides of noise terms are.
-pub(crate) fn pairs_fit(terms: &MaskedTerms<complex::Complex>, spins: u32) -> bool
-    requires { (terms.now.count ≤ most_terms) × (spins ≤ most_spins) }
-    ensures { result ≡ true → (w : List NoiseTerm) → each (λ p qs. valid p) (sides_of w) ≡ true → given terms.now ≡ map masked_pair w → outside spins (sides_of w) ≡ [] }
+pub(crate) fn pairs_fit(pairs: &MaskedTerms<complex::Complex>, spins: u32) -> bool
+    requires { spins ≤ most_spins }
+    ensures { result ≡ true → (w : List NoiseTerm) → each (λ p qs. valid p) (sides_of w) ≡ true → pairs.now.items ≡ map masked_pair w → outside spins (sides_of w) ≡ [] }
 {
     let mut all: u64 = 0;
-    for i in 0..terms.count {
-        all = all | terms.terms[i].masks.left | terms.terms[i].masks.right;
+    for t in pairs.as_slice() {
+        all = all | t.masks.left | t.masks.right;
     }
     is_below(all, spins)
 }

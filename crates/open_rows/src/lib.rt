@@ -1,70 +1,46 @@
 // Rows of open systems in f64; and of noise, which share their contributions.
 #![tactic(auto)]
 
-ghost use Rattle.std.specs.Prelude.{◌≡◌, List, map, ◌*◌, ◌^◌, ◌≤◌};
+ghost use Rattle.std.specs.Prelude.{◌≡◌, List, map, ◌*◌, ◌^◌, IsOk};
 ghost use Rattle.refusal.specs.Refusals.{gives};
-ghost use Rattle.row_entries.specs.Answers.{most_spins};
-ghost use Rattle.terms.specs.Setting.{most_terms};
 ghost use Rattle.rows.specs.Floats.{floats};
 ghost use Rattle.rows.specs.Placing.{open_row_in};
 ghost use Rattle.rows.specs.Buffers.{said_delivery};
 ghost use Rattle.rows.specs.Calls.{RowCall};
+ghost use Rattle.rows.specs.Entries.{said_row};
 ghost use Rattle.term_sets.specs.Complexes.{Term};
 ghost use Rattle.noise_sets.specs.Pairs.{NoiseTerm};
 ghost use Rattle.outside_sites.specs.Accepted.{Accepted};
-ghost use Rattle.open_rows.specs.Masked.{given, as_complex, masked, masked_pair};
+ghost use Rattle.open_rows.specs.Masked.{as_complex, masked, masked_pair};
 ghost use Rattle.contributions.specs.TermContributions.{commutator_contributions, noise_contributions};
 ghost use Rattle.outside_sites.specs.SystemItems.{system_items};
 ghost use Rattle.open_rows.specs.OpenRows.{system_row};
 
 mod fitting;
+mod given;
 pub mod noise_row;
-mod writing;
 
 use crate::fitting::{pairs_fit, terms_fit};
-use crate::writing::{write_hamiltonian, write_noise};
+use crate::given::{pairs_given, terms_given};
 use complex::Complex;
 use open_system::PauliLindbladOpenSystem;
 use outside_sites::outside_site;
 use refusal::Refusal;
 use row_entries::{MOST_SPINS, superoperator_size};
-use rows::deliver_both;
+use rows::Row;
 use term_sets::judging::MaskedTerms;
 
-// The row of terms that fit the spins, of the Hamiltonian and of the noise.
-fn delivered(
+// The row of terms that fit the spins: there is always room for their contributions.
+fn row_of(
     terms: &MaskedTerms<f64>,
     pairs: &MaskedTerms<Complex>,
     spins: u32,
     row: u64,
-    out_columns: &mut [u64],
-    out_re: &mut [f64],
-    out_im: &mut [f64],
-) -> Result<usize, Refusal>
-    requires { (terms.now.count ≤ most_terms) × (pairs.now.count ≤ most_terms) × (spins ≤ most_spins) }
-    ensures { (h : List Term) (w : List NoiseTerm) → map as_complex (given terms.now) ≡ map masked h → given pairs.now ≡ map masked_pair w → Accepted spins (2 ^ spins * 2 ^ spins) row (system_items h w) → RowCall (gives (open_row_in floats (commutator_contributions spins row h) (noise_contributions spins row w))) (said_delivery result) out_columns.old out_columns.new out_re.old out_re.new out_im.old out_im.new }
+) -> Result<Row<Complex>, Refusal>
+    ensures room { IsOk result }
+    ensures given { (h : List Term) (w : List NoiseTerm) → map as_complex terms.now.items ≡ map masked h → pairs.now.items ≡ map masked_pair w → Accepted spins (2 ^ spins * 2 ^ spins) row (system_items h w) → said_row result ≡ gives (open_row_in floats (commutator_contributions spins row h) (noise_contributions spins row w)) }
 {
-    let mut c_columns = [0u64; 320];
-    let mut c_re = [0.0f64; 320];
-    let mut c_im = [0.0f64; 320];
-    let c_n = write_hamiltonian(terms, spins, row, &mut c_columns, &mut c_re, &mut c_im);
-    let mut n_columns = [0u64; 320];
-    let mut n_re = [0.0f64; 320];
-    let mut n_im = [0.0f64; 320];
-    let n_n = write_noise(pairs, spins, row, &mut n_columns, &mut n_re, &mut n_im);
-    deliver_both(
-        &c_columns,
-        &c_re,
-        &c_im,
-        c_n,
-        &n_columns,
-        &n_re,
-        &n_im,
-        n_n,
-        out_columns,
-        out_re,
-        out_im,
-    )
+    terms_given(terms, spins, row).row_with(&pairs_given(pairs, spins, row))
 }
 
 // The row of an open system's superoperator over `spins` spins: 0 for each part, 7, 9, 8, then the row. What judging hands out gives the row;
@@ -96,5 +72,5 @@ pub fn row(
             return Err(Refusal::SiteOutsideSpins(site));
         }
     }
-    delivered(&terms, &pairs, spins, row, out_columns, out_re, out_im)
+    row_of(&terms, &pairs, spins, row)?.deliver(out_columns, out_re, out_im)
 }

@@ -5,13 +5,13 @@ use Rattle.std.specs.Prelude.{true, false, not, cond, List, [], ℕ, ◌*◌, �
 use Rattle.refusal.specs.Refusals.{Said, refuses}
 use Rattle.complex.specs.declared.Complex.{Complex}
 use Rattle.letters.specs.Matrices.{Letters, pauli}
-use Rattle.letters.specs.declared.alphabet.PauliLetters.{PauliLetters}
 use Rattle.rows.specs.Floats.{floats}
 use Rattle.rows.specs.Placing.{row_in}
 use Rattle.rows.specs.Calls.{checked_row}
 use Rattle.term_sets.specs.Complexes.{held_by, valid_set, items_of}
 use Rattle.hamiltonians.specs.Reals as reals
 use Rattle.term_sets.specs.Complexes.{Term}
+use Rattle.letters.specs.declared.alphabet.PauliLetters.{PauliLetters}
 use Rattle.operators.specs.declared.Operator.{Operator}
 use Rattle.hamiltonians.specs.declared.PauliHamiltonian.{PauliHamiltonian}
 use Rattle.hamiltonians.specs.Reals.{hamiltonian_terms}

@@ -38,17 +38,11 @@ fn sites(rt: &(impl Print + AllocGlobal)) -> Result<(), Failure> {
     Ok(())
 }
 
-// A full system in one row: with places to spare, with as many as entries, and with one less in some buffer.
-fn full_row(
-    rt: &(impl Print + AllocGlobal),
-    s: &PauliLindbladOpenSystem,
-    row: u64,
-) -> Result<(), Failure> {
-    let name = format_args!("full, row {row}, all places");
-    let count = lent(rt, name, s, 31, row, Room::each(PLACES))?;
-    let exact = Room::each(count);
-    let less = Room::each(count.saturating_sub(1));
-    let rooms = [
+// As many places as entries, and one less in some buffer.
+fn rooms(entries: usize) -> [(&'static str, Room); 5] {
+    let exact = Room::each(entries);
+    let less = Room::each(entries.saturating_sub(1));
+    [
         ("exact places", exact),
         ("one place less", less),
         (
@@ -72,16 +66,20 @@ fn full_row(
                 ..exact
             },
         ),
-    ];
-    for (places, room) in rooms {
-        lent(
-            rt,
-            format_args!("full, row {row}, {places}"),
-            s,
-            31,
-            row,
-            room,
-        )?;
+    ]
+}
+
+// A full system in one row: with places to spare, with as many as entries, and with one less.
+fn full_row(
+    rt: &(impl Print + AllocGlobal),
+    s: &PauliLindbladOpenSystem,
+    row: u64,
+) -> Result<(), Failure> {
+    let name = format_args!("full, row {row}, all places");
+    let count = lent(rt, name, s, 31, row, Room::each(PLACES))?;
+    for (places, room) in rooms(count) {
+        let name = format_args!("full, row {row}, {places}");
+        lent(rt, name, s, 31, row, room)?;
     }
     Ok(())
 }

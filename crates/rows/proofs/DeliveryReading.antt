@@ -4,4 +4,4 @@ use Rattle.refusal.proofs.RefusalLaws.{OneToOne, said_by_known}
 use Rattle.rows.specs.Buffers.{said_delivery}
 
 pub delivery_known : OneToOne said_delivery
-delivery_known = said_by_known (λ n. n) (λ x y e. e)
+delivery_known = said_by_known (λ n. n) (λ n m e. e)

@@ -25,7 +25,7 @@ checked_row n rows r ps row =
     (cond (leb rows r) (refuses 9 [])
     (unless_outside (outside n ps) row))
 
--- 0 where the contributions handed in are not good: too many, or one too large
+-- 0 where there are more contributions than a row has room for
 unfoldable pub unless_malformed : {N : Type 0} → Bool → List (ℕ × N) → Said (List (ℕ × N))
 unless_malformed good row = cond good (gives row) (refuses 0 [])
 

@@ -1,6 +1,10 @@
 pub mod Placing
-pub mod HalfUnits
 pub mod Neighbours
+pub mod HalfUnits
 pub mod Buffers
 pub mod Calls
 pub mod Floats
+pub mod Pairs
+pub mod Entries
+pub mod Room
+pub mod Plus

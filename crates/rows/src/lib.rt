@@ -1,117 +1,104 @@
-// Rows from contributions: sorted by column, added up, delivered into lent buffers.
+// Rows: contributions sorted by column and added up, and delivered into lent buffers. Over any numbers.
 #![tactic(auto)]
 
-ghost use Rattle.std.specs.Prelude.{◌≡◌, ◌++◌, ◌+◌, ◌≤◌, leb, length, take, drop};
-ghost use Rattle.refusal.specs.Refusals.{gives};
-ghost use Rattle.rows.specs.Floats.{floats};
+ghost use Rattle.std.specs.Prelude.{◌≡◌, ◌+◌, [], leb, length};
+ghost use Rattle.rows.specs.Pairs.{pairs};
+ghost use Rattle.rows.specs.Entries.{contributions_of, entries_of, said_row};
+ghost use Rattle.rows.specs.Buffers.{most_entries};
+ghost use Rattle.rows.specs.Calls.{unless_malformed};
 ghost use Rattle.rows.specs.Placing.{row_in, open_row_in};
-ghost use Rattle.rows.specs.Buffers.{most_entries, Long, put_into, said_delivery, entries};
-ghost use Rattle.rows.specs.Calls.{unless_malformed, RowCall};
+ghost use Rattle.rows.specs.Room.{added_where_room};
+ghost use Rattle.rows.specs.Plus.{plus};
 
-mod both;
+mod delivery;
+pub mod number;
 mod sums;
 
-use both::open_row;
+use crate::number::Number;
+use crate::sums::{added_up, columns_of};
+use arrayvec::ArrayVec;
 use refusal::Refusal;
-use sorting::least;
-use sums::collected;
+use sorting::{merged_places, sorted_places};
 
-// The first n columns into the first n places of a buffer, or as many as there are columns and places; the rest keeps what it had.
-pub fn put_columns(src: &[u64; 320], n: usize, out: &mut [u64])
-    ensures { out.new ≡ put_into n src.now out.old }
-{
-    let count = least(least(n, 320), out.len());
-    let mut i = 0usize;
-    while i < count {
-        out[i] = src[i];
-        i += 1;
+// The most contributions to a row: 2 of each of 64 terms of a Hamiltonian and 3 of each of 64 pairs of noise.
+pub const MOST_ENTRIES: usize = 320;
+
+// A column and a number: an entry of a row, or a contribution to one.
+#[derive(Clone, Copy, Default)]
+pub struct Entry<V> {
+    pub column: u64,
+    pub value: V,
+}
+
+impl<V: Number> Entry<V> {
+    // With a number added to its own.
+    pub(crate) fn plus(self, value: V) -> Self
+        ensures { result ≡ plus V.numbers.sum self value }
+    {
+        Entry {
+            column: self.column,
+            value: self.value.sum(value),
+        }
     }
 }
 
-// The first n parts of complex numbers into the first n places of a buffer; the rest keeps what it had.
-fn put_parts(src: &[f64; 320], n: usize, out: &mut [f64])
-    requires { (n ≤ length src.now) × (n ≤ 320) × (n ≤ length out.old) }
-    ensures { out.new ≡ take n src.now ++ drop n out.old }
-{
-    let mut i = 0usize;
-    while i < n {
-        out[i] = src[i];
-        i += 1;
-    }
+// Contributions to a row, in their order.
+#[derive(Drop)]
+pub struct Contributions<V> {
+    entries: ArrayVec<Entry<V>, MOST_ENTRIES>,
 }
 
-// The first n entries of three arrays, where every buffer holds them; a refusal changes none.
-fn handed_over(
-    columns: &[u64; 320],
-    re: &[f64; 320],
-    im: &[f64; 320],
-    n: usize,
-    out_columns: &mut [u64],
-    out_re: &mut [f64],
-    out_im: &mut [f64],
-) -> Result<usize, Refusal>
-    requires { (n ≤ 320) × Long columns.now re.now im.now }
-    ensures { RowCall (gives (entries columns.now re.now im.now n)) (said_delivery result) out_columns.old out_columns.new out_re.old out_re.new out_im.old out_im.new }
-{
-    if out_columns.len() < n || out_re.len() < n || out_im.len() < n {
-        return Err(Refusal::BufferTooShort);
-    }
-    put_columns(columns, n, out_columns);
-    put_parts(re, n, out_re);
-    put_parts(im, n, out_im);
-    Ok(n)
+// A row: entries by ascending column.
+#[derive(Drop)]
+pub struct Row<V> {
+    pub(crate) entries: ArrayVec<Entry<V>, MOST_ENTRIES>,
 }
 
-// The row of the first n contributions, with zero sums or without them.
-pub fn deliver(
-    columns: &[u64; 320],
-    re: &[f64; 320],
-    im: &[f64; 320],
-    n: usize,
-    zeros: bool,
-    out_columns: &mut [u64],
-    out_re: &mut [f64],
-    out_im: &mut [f64],
-) -> Result<usize, Refusal>
-    ensures { RowCall (unless_malformed (leb n most_entries) (row_in floats zeros (entries columns.now re.now im.now n))) (said_delivery result) out_columns.old out_columns.new out_re.old out_re.new out_im.old out_im.new }
-{
-    if n > 320 {
-        return Err(Refusal::Malformed);
+impl<V: Number> Contributions<V> {
+    // None.
+    pub fn new() -> Self
+        ensures { contributions_of result ≡ [] }
+    {
+        Contributions {
+            entries: ArrayVec::new(),
+        }
     }
-    let mut a = [0u64; 320];
-    let mut b = [0.0f64; 320];
-    let mut c = [0.0f64; 320];
-    let count = collected(columns, re, im, n, zeros, &mut a, &mut b, &mut c);
-    handed_over(&a, &b, &c, count, out_columns, out_re, out_im)
-}
 
-// An open system's row, of the contributions of its commutator and of its noise: both together at most 320.
-pub fn deliver_both(
-    c_columns: &[u64; 320],
-    c_re: &[f64; 320],
-    c_im: &[f64; 320],
-    c_n: usize,
-    n_columns: &[u64; 320],
-    n_re: &[f64; 320],
-    n_im: &[f64; 320],
-    n_n: usize,
-    out_columns: &mut [u64],
-    out_re: &mut [f64],
-    out_im: &mut [f64],
-) -> Result<usize, Refusal>
-    ensures { RowCall (unless_malformed (leb (c_n + n_n) most_entries) (open_row_in floats (entries c_columns.now c_re.now c_im.now c_n) (entries n_columns.now n_re.now n_im.now n_n))) (said_delivery result) out_columns.old out_columns.new out_re.old out_re.new out_im.old out_im.new }
-{
-    if c_n > 320 {
-        return Err(Refusal::Malformed);
+    // More of them, where there is room for all.
+    pub fn add(&mut self, es: &[Entry<V>])
+        ensures { contributions_of self.new ≡ added_where_room (pairs es.now) (contributions_of self.old) }
+    {
+        if self.entries.try_extend_from_slice(es).is_err() {
+            return;
+        }
     }
-    if n_n > 320 - c_n {
-        return Err(Refusal::Malformed);
+
+    // Their row, with zero sums or without.
+    pub fn row(&self, zeros: bool) -> Row<V>
+        ensures { entries_of result ≡ row_in V.numbers zeros (contributions_of self.now) }
+    {
+        let es = self.entries.as_slice();
+        let places = sorted_places(&columns_of(es), es.len());
+        let mut entries = added_up(es, &places[..es.len()]);
+        entries.retain(|e| zeros || !e.value.is_zero());
+        Row { entries }
     }
-    let mut a = [0u64; 320];
-    let mut b = [0.0f64; 320];
-    let mut c = [0.0f64; 320];
-    let count = open_row(
-        c_columns, c_re, c_im, c_n, n_columns, n_re, n_im, n_n, &mut a, &mut b, &mut c,
-    );
-    handed_over(&a, &b, &c, count, out_columns, out_re, out_im)
+
+    // An open system's row, of the contributions of its commutator and of its noise: both together at most as many as a row has room for.
+    pub fn row_with(&self, noise: &Self) -> Result<Row<V>, Refusal>
+        ensures { said_row result ≡ unless_malformed (leb (length (contributions_of self.now) + length (contributions_of noise.now)) most_entries) (open_row_in V.numbers (contributions_of self.now) (contributions_of noise.now)) }
+    {
+        if MOST_ENTRIES - self.entries.len() < noise.entries.len() {
+            return Err(Refusal::Malformed);
+        }
+        let mut both = self.row(false).entries;
+        let more = noise.row(true).entries;
+        let count = both.len();
+        if both.try_extend_from_slice(&more).is_err() {
+            return Err(Refusal::Malformed);
+        }
+        let places = merged_places(&columns_of(&both), count, more.len());
+        let entries = added_up(&both, &places[..both.len()]);
+        Ok(Row { entries })
+    }
 }

@@ -1,13 +1,10 @@
 -- Masks: those that are the same are equal, those whose mark is not set were not seen, and those of good keys tell the keys apart.
 -- Assumes nothing.
-use Prim.Native.Nat.{ℕ, ◌<◌}
-use native.Mathlib.Omega.{arith}
 use mathlib.Core.Path.{◌≡◌, refl, sym, ap, ◌∙◌}
 use mathlib.Core.Bool.{Bool, true, false, ◌||◌, true≢false}
 use mathlib.Core.List.{List, [], ◌∷◌}
 use lib.Dec.{eqb}
-use lib.ListN.{get_or, take, length-take}
-use lib.Seq.{get_or-take}
+use lib.ListN.{get_or}
 use borrow.Author.Tests.{eq-eqb, eqb-true}
 use Rattle.letters.proofs.TestLaws.{and_true, and_left, and_right}
 use Rattle.std.proofs.lemmas.List.Recursion.{or_from_places}
@@ -38,18 +35,15 @@ unfolding has
 any_holds x [] = refl
 any_holds x (y ∷ l) = ap (λ (b : Bool). same_masks y x || b) (any_holds x l)
 
--- the mark of x is not set: x is none of the first n masks
-pub unmarked_new : {n : ℕ} {masks : List Masks} {marks : List Bool} (x : Masks) → Marked n masks marks → get_or marks (mark_of x) false ≡ false → holds (take n masks) x ≡ false
+-- the mark of x is not set: x is none of the masks
+pub unmarked_new : {masks : List Masks} {marks : List Bool} (x : Masks) → Marked masks marks → get_or marks (mark_of x) false ≡ false → holds masks x ≡ false
 unfolding has
-unmarked_new {n} {masks} {marks} x m e =
+unmarked_new {masks} {marks} x m e =
     let none : Masks = record { left = 0; right = 0 } in
-    or_from_places (λ l. holds l x) (λ y. same_masks y x) refl (λ y l. refl) (take n masks) none
+    or_from_places (λ l. holds l x) (λ y. same_masks y x) refl (λ y l. refl) masks none
     (λ j h.
-    let b : j < n = omega (arith, length-take n masks) in
-    by_test (same_masks (get_or (take n masks) j none) x)
-    (λ s.
-    let q : get_or masks j none ≡ x = sym (get_or-take n masks j none b) ∙ same_masks-equal (get_or (take n masks) j none) x s in
-    absurd (true≢false (sym (m.each j b) ∙ ap (λ (y : Masks). get_or marks (mark_of y) false) q ∙ e)))
+    by_test (same_masks (get_or masks j none) x)
+    (λ s. absurd (true≢false (sym (m.each j h) ∙ ap (λ (y : Masks). get_or marks (mark_of y) false) (same_masks-equal (get_or masks j none) x s) ∙ e)))
     (λ f. f))
 
 -- ---- masks of keys

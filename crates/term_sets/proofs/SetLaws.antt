@@ -8,7 +8,7 @@ use Rattle.terms.specs.Keyed.{padded}
 use Rattle.terms.specs.Setting.{most_terms}
 use Rattle.terms.proofs.FilledLaws.{Sets}
 use Rattle.terms.proofs.FilledLaws as laws
-use Rattle.term_sets.specs.Complexes.{Term, TermSet, blank, held_by, filled}
+use Rattle.term_sets.specs.Complexes.{Term, TermSet, held_by, filled}
 use Rattle.term_sets.specs.Keys.{Keys, item_keys}
 use Rattle.term_sets.specs.Sets as any
 use Rattle.term_sets.specs.declared.Set.{Set}

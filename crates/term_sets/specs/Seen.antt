@@ -1,5 +1,5 @@
 -- Masks that were seen, and their marks: an array with `true` at the place of each. Only helpers of the entries cite them.
-use Rattle.std.specs.Prelude.{◌≡◌, ℕ, ◌+◌, ◌*◌, ◌%◌, ◌<◌, ◌≤◌, Bool, true, false, ◌&&◌, List, eqb, get_or}
+use Rattle.std.specs.Prelude.{◌≡◌, ℕ, ◌+◌, ◌*◌, ◌%◌, ◌<◌, Bool, true, false, ◌&&◌, List, eqb, length, get_or}
 use Rattle.terms.specs.Keyed.{has}
 use Rattle.term_sets.specs.declared.masks.Masks.{Masks}
 
@@ -15,7 +15,6 @@ same_masks x y = eqb x.left y.left && eqb x.right y.right
 abbrev pub holds : List Masks → Masks → Bool
 holds l x = has (λ y. same_masks y x) l
 
--- the count fits, and each of the first masks is marked
-pub record Marked (count : ℕ) (masks : List Masks) (marks : List Bool) : Type 0 where
-  pub few : count ≤ 64
-  pub each : (j : ℕ) → j < count → get_or marks (mark_of (get_or masks j (record { left = 0; right = 0 }))) false ≡ true
+-- each of the masks is marked
+pub record Marked (masks : List Masks) (marks : List Bool) : Type 0 where
+  pub each : (j : ℕ) → j < length masks → get_or marks (mark_of (get_or masks j (record { left = 0; right = 0 }))) false ≡ true

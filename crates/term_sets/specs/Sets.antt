@@ -2,6 +2,7 @@
 -- and what reading one answers. `zeros` says whether a set may hold zeros, as a `PauliOperator` may.
 -- Document 01, `an array of 64 term records, each a product and its coefficient, with a count`, and number 0.
 use Rattle.std.specs.Prelude.{◌≡◌, ◌<◌, MatchOption, Bool, ℕ, not, ◌&&◌, ◌||◌, cond, Option, Some, None, List, [], map, length, take}
+use Rattle.arrayvec.specs.ArrayVec.{ArrayVec}
 use Rattle.refusal.specs.Refusals.{Said, gives, refuses}
 use Rattle.complex.specs.Coefficients.{Coefficients}
 use Rattle.terms.specs.Keyed.{padded, first_at}
@@ -13,7 +14,6 @@ use Rattle.term_sets.specs.Keys.{Keys}
 use Rattle.term_sets.specs.declared.Term.{Term}
 use Rattle.term_sets.specs.declared.Set.{Set}
 use Rattle.term_sets.specs.declared.judging.MaskedTerm.{MaskedTerm}
-use Rattle.term_sets.specs.declared.judging.MaskedTerms.{MaskedTerms}
 
 -- the terms that a set holds
 abbrev pub held_by : {K N : Type 0} → Set K N → List (Term K N)
@@ -65,17 +65,14 @@ module _ {K N : Type 0} (k : Keys K) (c : Coefficients N) where
   unfoldable pub valid_set : Bool → Set K N → Bool
   valid_set zeros s = places.valid_places (good_term zeros) is_blank s.count s.terms
 
-  -- of a valid set: the count, and each held term's masks and coefficient, blanks past them; helpers of the rows cite it
+  -- of a valid set: each held term's masks and coefficient; helpers of the rows cite it
   abbrev pub masked_term : Term K N → MaskedTerm N
   masked_term t = record { masks = k.masks_of t.key; coefficient = t.coefficient }
 
-  abbrev pub no_term : MaskedTerm N
-  no_term = record { masks = record { left = 0; right = 0 }; coefficient = c.zero }
+  abbrev pub masked_terms : List (Term K N) → ArrayVec (MaskedTerm N)
+  masked_terms l = record { items = map masked_term l }
 
-  abbrev pub masked_terms : List (Term K N) → MaskedTerms N
-  masked_terms l = record { count = length l; terms = padded most_terms no_term (map masked_term l) }
-
-  unfoldable pub masked_set : Bool → Set K N → Option (MaskedTerms N)
+  unfoldable pub masked_set : Bool → Set K N → Option (ArrayVec (MaskedTerm N))
   masked_set zeros s = cond (valid_set zeros s) (Some (masked_terms (held_by s))) None
 
   -- the coefficient under a key, zero where it is free

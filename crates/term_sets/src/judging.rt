@@ -1,5 +1,5 @@
 // Whether number 0 lets a set pass: its held terms, and the zero records past them; and of a valid one the masks and the coefficients of its terms.
-ghost use Rattle.std.specs.Prelude.{◌≡◌, ◌≤◌, MatchOption, true, false, map, length, take, drop};
+ghost use Rattle.std.specs.Prelude.{◌≡◌, ◌≤◌, MatchOption, true, false, map, length, drop};
 ghost use Rattle.term_sets.specs.Sets.{held_by, good_coefficient, good_term, is_blank, valid_set, masked_terms, masked_set};
 ghost use Rattle.terms.specs.Keyed.{each};
 ghost use Rattle.terms.specs.Setting.{most_terms};
@@ -8,8 +8,8 @@ use crate::key::Key;
 use crate::masks::Masks;
 use crate::seen::Seen;
 use crate::{Set, Term, places};
+use arrayvec::ArrayVec;
 use complex::coefficient::Coefficient;
-use std::alloc::AllocError;
 use terms::MOST_TERMS;
 
 // What a row needs of a term.
@@ -19,25 +19,22 @@ pub struct MaskedTerm<N> {
     pub coefficient: N,
 }
 
-// What a row needs of a set.
-#[derive(Copy)]
-pub struct MaskedTerms<N> {
-    pub count: usize,
-    pub terms: [MaskedTerm<N>; MOST_TERMS],
-}
+// What an unused place holds.
+impl<N: Coefficient> Default for MaskedTerm<N> {
+    ghost use Rattle.std.specs.Prelude.{⊤};
 
-// A copy, as of a set.
-impl<N: Copy> Clone for MaskedTerms<N> {
-    ghost use Rattle.std.specs.Prelude.{◌≡◌, ⊤};
+    ghost is_default = { λ t. ⊤ };
 
-    ghost is_clone = { λ x y. y ≡ x };
-
-    ghost is_infallible = { λ s. ⊤ };
-
-    fn clone(&self) -> Result<MaskedTerms<N>, AllocError> {
-        Ok(*self)
+    fn default() -> Self {
+        MaskedTerm {
+            masks: Masks { left: 0, right: 0 },
+            coefficient: N::zero(),
+        }
     }
 }
+
+// What a row needs of a set.
+pub type MaskedTerms<N> = ArrayVec<MaskedTerm<N>, MOST_TERMS>;
 
 // Whether a record is the zero record.
 fn is_blank<K: Key, N: Coefficient>(t: &Term<K, N>) -> bool
@@ -57,7 +54,7 @@ fn is_good_coefficient<N: Coefficient>(zeros: bool, a: N) -> bool
 fn judged_terms<K: Key, N: Coefficient>(zeros: bool, terms: &[Term<K, N>]) -> Option<Seen>
     requires { length terms.now ≤ most_terms }
     ensures { MatchOption result (each (good_term K.keys N.numbers zeros) terms.now ≡ false)
-        (λ seen. (each (good_term K.keys N.numbers zeros) terms.now ≡ true) × (take seen.count seen.masks ≡ map (λ t. K.keys.masks_of t.key) terms.now)) }
+        (λ seen. (each (good_term K.keys N.numbers zeros) terms.now ≡ true) × (seen.masks.items ≡ map (λ t. K.keys.masks_of t.key) terms.now)) }
 {
     let mut seen = Seen::new();
     for t in terms {
@@ -71,23 +68,16 @@ fn judged_terms<K: Key, N: Coefficient>(zeros: bool, terms: &[Term<K, N>]) -> Op
 
 // Terms with their masks.
 fn gathered<K: Key, N: Coefficient>(seen: &Seen, terms: &[Term<K, N>]) -> MaskedTerms<N>
-    requires { (length terms.now ≤ most_terms) × (take seen.now.count seen.now.masks ≡ map (λ t. K.keys.masks_of t.key) terms.now) }
+    requires { (length terms.now ≤ most_terms) × (seen.now.masks.items ≡ map (λ t. K.keys.masks_of t.key) terms.now) }
     ensures { result ≡ masked_terms K.keys N.numbers terms.now }
 {
-    let none = MaskedTerm {
-        masks: Masks { left: 0, right: 0 },
-        coefficient: N::zero(),
-    };
-    let mut out = MaskedTerms {
-        count: terms.len(),
-        terms: [none; MOST_TERMS],
-    };
+    let mut out = ArrayVec::new();
     let masks = seen.masks();
     for (i, t) in terms.iter().enumerate() {
-        out.terms[i] = MaskedTerm {
+        out.push(MaskedTerm {
             masks: masks[i],
             coefficient: t.coefficient,
-        };
+        });
     }
     out
 }
@@ -105,7 +95,7 @@ impl<K: Key, N: Coefficient> Set<K, N> {
     // The masks of a set's terms, where number 0 lets it pass; `zeros` says whether it may hold zeros.
     fn judged(&self, zeros: bool) -> Option<Seen>
         ensures { MatchOption result (valid_set K.keys N.numbers zeros self.now ≡ false)
-            (λ seen. (valid_set K.keys N.numbers zeros self.now ≡ true) × (take seen.count seen.masks ≡ map (λ t. K.keys.masks_of t.key) (held_by self.now))) }
+            (λ seen. (valid_set K.keys N.numbers zeros self.now ≡ true) × (seen.masks.items ≡ map (λ t. K.keys.masks_of t.key) (held_by self.now))) }
     {
         if MOST_TERMS < self.count || !has_blanks_past(self) {
             return None;

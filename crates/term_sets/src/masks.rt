@@ -3,7 +3,7 @@ ghost use Rattle.std.specs.Prelude.{◌≡◌};
 ghost use Rattle.term_sets.specs.Seen.{mark_of};
 
 // The masks of a key: those of its product, or of its left and its right one.
-#[derive(Clone, Copy, PartialEq, Eq, Debug)]
+#[derive(Clone, Copy, Default, PartialEq, Eq, Debug)]
 pub struct Masks {
     pub left: u64,
     pub right: u64,

@@ -1,52 +1,47 @@
 // Masks that were seen, with marks by which most new ones are told at once.
-ghost use Rattle.std.specs.Prelude.{◌≡◌, not, ◌++◌, ◌∷◌, [], ◌+◌, ◌<◌, take};
+ghost use Rattle.std.specs.Prelude.{◌≡◌, not, ◌++◌, ◌∷◌, [], ◌<◌, length};
 ghost use Rattle.terms.specs.Setting.{most_terms};
 ghost use Rattle.term_sets.specs.Seen.{holds, Marked};
 
 use crate::masks::Masks;
+use arrayvec::ArrayVec;
 use terms::MOST_TERMS;
 
 // At most as many masks as a set has terms. Those whose mark is not set are new; only where it is set are the others looked at.
-#[derive(Clone, Copy)]
+#[derive(Drop)]
 pub(crate) struct Seen {
-    count: usize,
-    masks: [Masks; MOST_TERMS],
+    masks: ArrayVec<Masks, MOST_TERMS>,
     marks: [bool; 256],
-    ghost marked: { Marked count masks marks },
+    ghost marked: { Marked masks.items marks },
 }
 
 impl Seen {
     pub(crate) fn new() -> Seen
-        ensures { (result.count ≡ 0) × (take result.count result.masks ≡ []) }
+        ensures { result.masks.items ≡ [] }
     {
-        let none = Masks { left: 0, right: 0 };
         Seen {
-            count: 0,
-            masks: [none; MOST_TERMS],
+            masks: ArrayVec::new(),
             marks: [false; 256],
         }
     }
 
     // Whether masks are new; they are seen then.
     pub(crate) fn insert(&mut self, x: Masks) -> bool
-        requires { self.old.count < most_terms }
-        ensures answer { result ≡ not (holds (take self.old.count self.old.masks) x) }
-        ensures counted { self.new.count ≡ self.old.count + 1 }
-        ensures last { take self.new.count self.new.masks ≡ take self.old.count self.old.masks ++ x ∷ [] }
+        requires { length self.old.masks.items < most_terms }
+        ensures answer { result ≡ not (holds self.old.masks.items x) }
+        ensures last { self.new.masks.items ≡ self.old.masks.items ++ x ∷ [] }
     {
         let at = x.mark();
-        let count = self.count;
-        let is_new = !self.marks[at] || !self.masks[..count].contains(&x);
-        self.masks[count] = x;
+        let is_new = !self.marks[at] || !self.masks.contains(&x);
+        self.masks.push(x);
         self.marks[at] = true;
-        self.count = count + 1;
         is_new
     }
 
     // Those seen, in their order.
     pub(crate) fn masks(&self) -> &[Masks]
-        ensures { result.now ≡ take self.now.count self.now.masks }
+        ensures { result.now ≡ self.now.masks.items }
     {
-        &self.masks[..self.count]
+        self.masks.as_slice()
     }
 }

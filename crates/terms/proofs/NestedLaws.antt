@@ -23,3 +23,8 @@ concat_map_one {A} {B} f (x ∷ l) = ap (λ (r : List B). f x ∷ r) (concat_map
 pub concat_map-same : {A B : Type 0} (f g : A → List B) → ((x : A) → f x ≡ g x) → (l : List A) → concat_map f l ≡ concat_map g l
 concat_map-same f g e [] = concat_map_nil f ∙ sym (concat_map_nil g)
 concat_map-same f g e (x ∷ l) = concat_map_cons f x l ∙ (λ j. e x j ++ concat_map-same f g e l j) ∙ sym (concat_map_cons g x l)
+
+-- a map inside
+pub concat_map-map : {A B C : Type 0} (f : A → B) (g : B → List C) (l : List A) → concat_map g (map f l) ≡ concat_map (λ x. g (f x)) l
+concat_map-map f g [] = concat_map_nil g ∙ sym (concat_map_nil (λ x. g (f x)))
+concat_map-map f g (x ∷ l) = concat_map_cons g (f x) (map f l) ∙ ap (λ m. g (f x) ++ m) (concat_map-map f g l) ∙ sym (concat_map_cons (λ x. g (f x)) x l)

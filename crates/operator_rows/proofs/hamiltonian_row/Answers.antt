@@ -1,22 +1,36 @@
 -- The terms of a valid Hamiltonian as complex ones are valid: its row is theirs.
-use mathlib.Core.Path.{sym, ap, ◌∙◌, subst}
-use Rattle.letters.specs.Matrices.{pauli, letters_of}
-use Rattle.rows.proofs.CallLaws.{call_malformed, call_valid}
-use Rattle.term_sets.proofs.SetLaws.{held-from}
+use Rattle.std.proofs.Common.{◌≤◌, ◌∙◌, sym, ap, subst, length}
+use Rattle.letters.specs.Matrices.{pauli}
+use Rattle.rows.proofs.AnsweredLaws.{call_refused, call_passed_on, call_given, says_malformed, says_valid}
+use Rattle.terms.specs.Setting.{most_terms}
 use Rattle.term_sets.specs.Complexes.{items_of}
-use Rattle.operator_rows.specs.OperatorRows.{operator_row_of, hamiltonian_row}
+use Rattle.term_sets.proofs.SetLaws.{held-from}
 use Rattle.outside_sites.proofs.AcceptedLaws.{AllValid, hamiltonian-valid}
+use Rattle.contributions.proofs.HeldLaws.{hamiltonian-few}
+use Rattle.operator_rows.specs.OperatorRows.{operator_row_of, hamiltonian_row}
 use Rattle.operator_rows.proofs.hamiltonian_row.Goals as goal
 
 pub returns-then-not-is_valid : goal.returns-then-not-is_valid
 unfolding hamiltonian_row
-returns-then-not-is_valid c = call_malformed _ _ _ _ _ (sym c.is_valid.ensures ∙ c.if-not-is_valid.true)
+returns-then-not-is_valid c = call_refused (says_malformed _ _ (sym c.is_valid.ensures ∙ c.if-not-is_valid.true))
 
 pub operator_row_of-requires : goal.operator_row_of-requires
 operator_row_of-requires c =
-    subst (λ l. AllValid (items_of l)) (sym (held-from _ _ c.complex_terms-s.ensures)) (hamiltonian-valid _ (sym c.is_valid.ensures ∙ c.if-not-is_valid.false))
+    let valid = sym c.is_valid.ensures ∙ c.if-not-is_valid.false in
+    let held = sym (held-from _ _ c.complex_terms.ensures) in
+    record {
+      few = subst (λ l. length l ≤ most_terms) held (hamiltonian-few _ valid);
+      valid = subst (λ l. AllValid (items_of l)) held (hamiltonian-valid _ valid);
+    }
+
+pub returns-in_err-operator_row_of : goal.returns-in_err-operator_row_of
+unfolding hamiltonian_row
+returns-in_err-operator_row_of c =
+    let held = ap (operator_row_of pauli c.args.spins c.args.row) (held-from _ _ c.complex_terms.ensures) in
+    call_passed_on _ _ (says_valid _ _ (sym c.is_valid.ensures ∙ c.if-not-is_valid.false) (c.in_err-operator_row_of.ensures ∙ held)) c.from_residual.ensures.1
 
 pub returns : goal.returns
-unfolding hamiltonian_row letters_of
+unfolding hamiltonian_row
 returns c =
-    call_valid _ (sym c.is_valid.ensures ∙ c.if-not-is_valid.false) (ap (operator_row_of pauli c.args.spins c.args.row) (held-from _ _ c.complex_terms-s.ensures)) c.operator_row_of.ensures
+    let held = ap (operator_row_of pauli c.args.spins c.args.row) (held-from _ _ c.complex_terms.ensures) in
+    call_given (says_valid _ _ (sym c.is_valid.ensures ∙ c.if-not-is_valid.false) (c.in_ok-operator_row_of.ensures ∙ held)) c.deliver.ensures

@@ -1,20 +1,25 @@
--- A valid set's terms are valid: its row is theirs.
-use mathlib.Core.Path.{refl, sym, ◌∙◌}
-use mathlib.Core.Bool.{true}
-use Rattle.letters.specs.Matrices.{letters_of}
-use Rattle.rows.proofs.CallLaws.{call_malformed, call_valid}
-use Rattle.operator_rows.specs.OperatorRows.{operator_row}
+-- A valid operator's terms are valid: its row is theirs.
+use Rattle.std.proofs.Common.{◌∙◌, sym, true}
+use Rattle.rows.proofs.AnsweredLaws.{call_refused, call_passed_on, call_given, says_malformed, says_valid}
 use Rattle.outside_sites.proofs.AcceptedLaws.{operator_valid}
+use Rattle.contributions.proofs.HeldLaws.{operator-few}
+use Rattle.operator_rows.specs.OperatorRows.{operator_row}
 use Rattle.operator_rows.proofs.operator_row.Goals as goal
 
 pub returns-then-not-is_valid : goal.returns-then-not-is_valid
 unfolding operator_row
-returns-then-not-is_valid c = call_malformed _ _ _ _ _ (sym c.is_valid.ensures ∙ c.if-not-is_valid.true)
+returns-then-not-is_valid c = call_refused (says_malformed _ _ (sym c.is_valid.ensures ∙ c.if-not-is_valid.true))
 
 pub operator_row_of-requires : goal.operator_row_of-requires
-operator_row_of-requires c = operator_valid true _ (sym c.is_valid.ensures ∙ c.if-not-is_valid.false)
+operator_row_of-requires c =
+    let valid = sym c.is_valid.ensures ∙ c.if-not-is_valid.false in
+    record { few = operator-few true _ valid; valid = operator_valid true _ valid }
+
+pub returns-in_err-operator_row_of : goal.returns-in_err-operator_row_of
+unfolding operator_row
+returns-in_err-operator_row_of c =
+    call_passed_on _ _ (says_valid _ _ (sym c.is_valid.ensures ∙ c.if-not-is_valid.false) c.in_err-operator_row_of.ensures) c.from_residual.ensures.1
 
 pub returns : goal.returns
-unfolding operator_row letters_of
-returns c =
-    call_valid _ (sym c.is_valid.ensures ∙ c.if-not-is_valid.false) refl c.operator_row_of.ensures
+unfolding operator_row
+returns c = call_given (says_valid _ _ (sym c.is_valid.ensures ∙ c.if-not-is_valid.false) c.in_ok-operator_row_of.ensures) c.deliver.ensures

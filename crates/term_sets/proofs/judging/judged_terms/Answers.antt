@@ -1,6 +1,8 @@
 -- The walk ends at the first term that fails alone (`bad_key`, `bad_coefficient`), where masks repeat (`seen_before`), or with none left.
 use native.Mathlib.Omega.{arith}
-use mathlib.Core.Path.{sym, ◌∙◌}
+use Prim.Native.Nat.{◌+◌}
+use mathlib.Core.Path.{sym, ap, ◌∙◌}
+use lib.ListN.{length, length-append}
 use borrow.Author.Tests.{not-true, not-false}
 use Rattle.terms.proofs.FingerprintLaws.{fingerprinted_none}
 use Rattle.term_sets.proofs.MaskedLaws.{bad_key, bad_coefficient, seen_before, judged_more}
@@ -8,7 +10,7 @@ use Rattle.term_sets.proofs.judging.judged_terms.Goals.{then-not-is_good_coeffic
 use Rattle.term_sets.proofs.judging.judged_terms.Goals as goal
 
 pub loop-t-init : goal.loop-t-init
-loop-t-init g c = record { counted = c.new-seen.ensures.0; judged = fingerprinted_none c.new-seen.ensures.1 }
+loop-t-init g c = record { counted = ap length c.new-seen.ensures; judged = fingerprinted_none c.new-seen.ensures }
 
 pub returns-in_err-masks : goal.returns-in_err-masks
 returns-in_err-masks g c =
@@ -32,7 +34,7 @@ returns-then-not-is_good_coefficient g c =
 pub loop-t-preserved : goal.loop-t-preserved
 loop-t-preserved g c =
     record {
-      counted = omega arith;
+      counted = ap length c.insert.ensures.last ∙ length-append c.loop-t.seen.masks.items _ ∙ ap (λ n. n + 1) c.loop-t.invariant.counted;
       judged =
           judged_more g.K.Key.keys g.N.Coefficient.numbers g.met.K.Key.laws c.args.zeros c.t-item.result c.t-item.is c.loop-t.invariant.judged (omega arith) c.in_ok-masks.ensures
           (sym c.is_good_coefficient.ensures ∙ c.if-not-is_good_coefficient.false)

@@ -1,11 +1,8 @@
 -- Masks whose mark is not set are new (`unmarked_new`); else those seen are looked at (`any_holds`).
-use native.Mathlib.Omega.{arith}
-use native.Mathlib.Numerals.{add-one}
 use mathlib.Core.Bool.{not, false}
 use mathlib.Core.Path.{sym, ap, ◌∙◌}
-use Prim.Native.Nat.{◌<◌}
-use lib.ListN.{length, get_or, take}
-use lib.Seq.{take-suc-set}
+use lib.ListN.{get_or}
+use Rattle.term_sets.specs.Seen.{holds}
 use Rattle.term_sets.proofs.MaskLaws.{any_holds, unmarked_new}
 use Rattle.term_sets.proofs.seen.Seen.insert.Goals.{then-not-self-at, else-not-self-at}
 use Rattle.term_sets.proofs.seen.Seen.insert.Goals as goal
@@ -18,11 +15,5 @@ returns-clause-answer c =
       | then-not-self-at w ↦
           let e = sym (ap (λ k. get_or s.marks k false) c.mark-at.ensures) ∙ w.if-not-self-at.true in
           w.is_new-is ∙ ap not (w.if-not-self-at.true ∙ sym (unmarked_new x s.marked e))
-      | else-not-self-at w ↦ w.is_new-is ∙ ap not (w.contains.ensures.value ∙ any_holds x (take s.count s.masks))
+      | else-not-self-at w ↦ w.is_new-is ∙ ap not (w.contains.ensures.value ∙ any_holds x w.deref.result.now ∙ ap (λ l. holds l x) w.deref.ensures.0)
     ]
-
-pub returns-clause-last : goal.returns-clause-last
-returns-clause-last c =
-    let s = c.args.self.now in
-    let fits : s.count < length s.masks = omega arith in
-    rw (add-one s.count, take-suc-set s.masks s.count c.args.x fits)
