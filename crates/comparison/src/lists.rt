@@ -75,6 +75,6 @@ pub(crate) fn compared(reader: &mut Reader<'_>) -> Result<bool, Fault> {
         place,
         told,
     };
-    let rows = row.agrees(reader.alloc(), open_row)?;
+    let rows = row.agrees(open_row)?;
     Ok(same && sets && rows)
 }

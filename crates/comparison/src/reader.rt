@@ -32,11 +32,6 @@ impl<'a> Reader<'a> {
         (0..count).map(|_| self.read()).try_collect(alloc)
     }
 
-    // Where what the record calls for may be kept.
-    pub(crate) fn alloc(&self) -> Global {
-        self.alloc
-    }
-
     // Nothing stands past what was read.
     pub(crate) fn end(&self) -> Result<(), Fault> {
         if self.rest.is_empty() {

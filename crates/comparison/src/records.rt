@@ -1,34 +1,63 @@
 // The records of a file, compared by their opcodes: each is a length of two bytes, the low one first, then so many bytes.
+ghost use Rattle.std.specs.Prelude.{◌≤◌, length};
+
 use crate::fault::Fault;
 use crate::reader::Reader;
 use crate::report::Report;
 use crate::{calls, lists, operator_answers, product_answers, row_answers, single_letters};
 use std::alloc::{AllocError, Global};
-use std::io;
+use std::fs::File;
+use std::io::Read;
 
-// The records of a file that are still to come. One within which the file ends comes as an empty one.
+// The length of the longest record.
+const LONGEST: usize = 65535;
+
+// The records of a file that are still to come, read into a buffer that holds the longest one.
 #[derive(Drop)]
-struct Records<'a> {
-    rest: &'a [u8],
+struct Records<R> {
+    file: R,
+    buffer: [u8; LONGEST],
 }
 
-impl<'a> Iterator for Records<'a> {
-    type Item = &'a [u8];
+impl<R: Read> Records<R> {
+    fn new(file: R) -> Self {
+        Records {
+            file,
+            buffer: [0; LONGEST],
+        }
+    }
 
-    fn next(&mut self) -> Option<&'a [u8]> {
-        if self.rest.is_empty() {
+    // The next record. One within which the file ends, or can't be read on, comes as an empty one.
+    fn next(&mut self) -> Option<&[u8]> {
+        let mut head = [0; 2];
+        let got = read_full(&mut self.file, &mut head);
+        if got == 0 {
             return None;
         }
-        let (record, rest) = split(self.rest).unwrap_or((&[], &[]));
-        self.rest = rest;
+        let length = usize::from(u16::from_le_bytes(head));
+        if got < 2 || self.buffer.len() < length {
+            return Some(&[]);
+        }
+        let record = &mut self.buffer[..length];
+        if read_full(&mut self.file, record) < length {
+            return Some(&[]);
+        }
         Some(record)
     }
 }
 
-// The first record, and what follows it.
-fn split(file: &[u8]) -> Option<(&[u8], &[u8])> {
-    let (length, rest) = file.split_first_chunk()?;
-    rest.split_at_checked(usize::from(u16::from_le_bytes(*length)))
+// Reads until a buffer is full, the file ends or a read fails: how many bytes it put at the buffer's start.
+fn read_full<R: Read>(file: &mut R, buffer: &mut [u8]) -> usize
+    ensures { result ≤ length buffer.new }
+{
+    let mut done = 0;
+    while done < buffer.len() {
+        match file.read(&mut buffer[done..]) {
+            Ok(0) | Err(_) => return done,
+            Ok(n) => done += n,
+        }
+    }
+    done
 }
 
 #[derive(Clone, Copy)]
@@ -78,11 +107,15 @@ impl<'a> Record<'a> {
 }
 
 // The report on a file, whose records are counted from 1. Every eighth one, where it agrees, is altered and compared again.
-pub(crate) fn compared(rt: &(impl Print + AllocGlobal), file: &[u8]) -> io::Result<Report> {
+pub(crate) fn compared(rt: &(impl Print + AllocGlobal), file: File) -> Result<Report, AllocError> {
+    let mut records = Records::new(file);
     let mut report = Report::new();
-    for (index, record) in (1..u64::MAX).zip(Records { rest: file }) {
+    for index in 1..u64::MAX {
+        let Some(record) = records.next() else {
+            break;
+        };
         let Some(record) = Record::new(record) else {
-            report.add_unparsed(rt, index)?;
+            report.add_unparsed(rt, index);
             continue;
         };
         match record.compared(rt.alloc()) {
@@ -92,10 +125,10 @@ pub(crate) fn compared(rt: &(impl Print + AllocGlobal), file: &[u8]) -> io::Resu
                     report.add_altered(record.notices(rt.alloc(), index)?);
                 }
             }
-            Ok(false) => report.add_differing(rt, index, record.op)?,
-            Err(Fault::Refused) => report.add_refused(rt, index, record.op)?,
-            Err(Fault::Unparsed) => report.add_unparsed(rt, index)?,
-            Err(Fault::Memory(error)) => return Err(error.into()),
+            Ok(false) => report.add_differing(rt, index, record.op),
+            Err(Fault::Refused) => report.add_refused(rt, index, record.op),
+            Err(Fault::Unparsed) => report.add_unparsed(rt, index),
+            Err(Fault::Memory(error)) => return Err(error),
         }
     }
     Ok(report)

@@ -1,7 +1,7 @@
 // How many records of each opcode were compared, refused and found to differ.
 use crate::names::{NAMES, OPCODES};
+use std::fmt;
 use std::fmt::{Display, Formatter};
-use std::{fmt, io};
 
 #[derive(Clone, Copy)]
 struct Counts {
@@ -84,19 +84,19 @@ impl Report {
         self.add(op, Counts::SAME);
     }
 
-    pub(crate) fn add_differing(&mut self, rt: &impl Print, index: u64, op: u8) -> io::Result<()> {
+    pub(crate) fn add_differing(&mut self, rt: &impl Print, index: u64, op: u8) {
         self.add(op, Counts::DIFFERING);
-        println!(rt; "record {index}: differs")
+        let _ = println!(rt; "record {index}: differs");
     }
 
-    pub(crate) fn add_refused(&mut self, rt: &impl Print, index: u64, op: u8) -> io::Result<()> {
+    pub(crate) fn add_refused(&mut self, rt: &impl Print, index: u64, op: u8) {
         self.add(op, Counts::REFUSED);
-        println!(rt; "record {index}: refused")
+        let _ = println!(rt; "record {index}: refused");
     }
 
-    pub(crate) fn add_unparsed(&mut self, rt: &impl Print, index: u64) -> io::Result<()> {
+    pub(crate) fn add_unparsed(&mut self, rt: &impl Print, index: u64) {
         self.unparsed = self.unparsed.saturating_add(1);
-        println!(rt; "record {index}: does not parse")
+        let _ = println!(rt; "record {index}: does not parse");
     }
 
     pub(crate) fn add_altered(&mut self, noticed: bool) {

@@ -11,7 +11,6 @@ use spins::{
     ProductEntry, Refusal, commutator_row, hamiltonian_commutator_row, hamiltonian_row, noise_row,
     open_row, operator_row,
 };
-use std::alloc::Global;
 
 // The most entries of a row.
 const ENTRIES: usize = 320;
@@ -82,11 +81,11 @@ impl<S> RowOf<S> {
     // Whether a call delivers this row.
     pub(crate) fn agrees<
         F: FnOnce(&S, u32, u64, &mut [u64], &mut [f64], &mut [f64]) -> Result<usize, Refusal>,
-    >(&self, alloc: Global, deliver: F) -> Result<bool, Fault>
+    >(&self, deliver: F) -> Result<bool, Fault>
         requires { F.IsAlwaysCallable deliver }
     {
         let Place { spins, row } = self.place;
-        let mut buffers = Buffers::new(alloc)?;
+        let mut buffers = Buffers::new();
         let (columns, re, im) = buffers.lend(Room::each(PLACES));
         let count = deliver(&self.set, spins, row, columns, re, im)?;
         Ok(self.told.is_delivered(count, &buffers))
@@ -123,16 +122,15 @@ fn system(reader: &mut Reader<'_>) -> Result<RowOf<PauliLindbladOpenSystem>, Fau
 }
 
 pub(crate) fn compared(op: u8, reader: &mut Reader<'_>) -> Result<bool, Fault> {
-    let alloc = reader.alloc();
     match op {
-        25 => written(reader)?.agrees(alloc, operator_row),
-        26 => written(reader)?.agrees(alloc, hamiltonian_row),
-        27 => written(reader)?.agrees(alloc, commutator_row),
-        28 => written(reader)?.agrees(alloc, hamiltonian_commutator_row),
-        29 => written(reader)?.agrees(alloc, noise_row),
-        30 => scaled(reader)?.agrees(alloc, commutator_row),
-        31 => scaled(reader)?.agrees(alloc, operator_row),
-        32 => system(reader)?.agrees(alloc, open_row),
+        25 => written(reader)?.agrees(operator_row),
+        26 => written(reader)?.agrees(hamiltonian_row),
+        27 => written(reader)?.agrees(commutator_row),
+        28 => written(reader)?.agrees(hamiltonian_commutator_row),
+        29 => written(reader)?.agrees(noise_row),
+        30 => scaled(reader)?.agrees(commutator_row),
+        31 => scaled(reader)?.agrees(operator_row),
+        32 => system(reader)?.agrees(open_row),
         _ => Err(Fault::Unparsed),
     }
 }

@@ -6,6 +6,7 @@ use mathlib.Core.Path.{◌≡◌, refl, sym, ap, ap₂, ◌∙◌}
 use mathlib.Core.Bool.{false}
 use mathlib.Core.List.{List, [], ◌∷◌, ◌++◌, map, map-append}
 use lib.ListN.{length, length-append, length-map}
+use Rattle.refusal.specs.Refusals.{gives}
 use Rattle.letters.specs.Gauss.{G}
 use Rattle.items.specs.Record.{letter_at}
 use Rattle.terms.specs.Keyed.{concat_map}
@@ -15,11 +16,11 @@ use Rattle.master_equation.specs.Numbers.{halves}
 use Rattle.master_equation.specs.Contributions.{commutator_terms, noise_terms}
 use Rattle.rows.specs.Buffers.{most_entries}
 use Rattle.rows.specs.Placing.{row_in}
-use Rattle.exact_sums.specs.ExactSums.{all_small}
+use Rattle.exact_sums.specs.ExactSums.{all_small, exact_answer}
 use Rattle.exact_sums.specs.Wrapped.{wrapped}
 use Rattle.exact_sums.specs.Exact.{exact_pair}
 use Rattle.exact_sums.specs.declared.Halves.{Halves}
-use Rattle.exact_sums.proofs.ExactLaws.{row_exact}
+use Rattle.exact_sums.proofs.ExactLaws.{row_exact, exact_answered}
 use Rattle.term_sets.specs.Complexes.{Term, items_of}
 use Rattle.noise_sets.specs.Pairs.{NoiseTerm, sides_of}
 use Rattle.outside_sites.specs.Accepted.{Accepted}
@@ -99,3 +100,7 @@ module _ (n r : ℕ) where
     sums_exact all says e =
         let enough : length all ≤ most_entries = omega (arith, exact_few, ap length says, length-map all exact_pair) in
         ap (map exact_pair) e ∙ row_exact all enough (ap all_small says ∙ contributions_small n r h w) ∙ ap (row_in halves false) says
+
+    -- which is answered, since they are small and at most 320
+    pub sums_answered : exact_answer (exact_contributions n r h w) ≡ gives (row_in halves false (exact_contributions n r h w))
+    sums_answered = sym (exact_answered (exact_contributions n r h w) exact_few (contributions_small n r h w))

@@ -43,7 +43,7 @@ fn row_of(h: &TermSet, n: &NoiseSet, spins: u32, row: u64) -> Result<Row<Halves>
     if !all_whole(h) || !all_whole(n) {
         return Err(Refusal::NotWhole);
     }
-    Ok(given(h, n, spins, row).row(false))
+    exact_sums::row(&given(h, n, spins, row))
 }
 
 // The exact row of an open system's superoperator over `spins` spins, in halves.

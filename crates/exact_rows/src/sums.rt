@@ -36,14 +36,14 @@ pub(crate) fn given(h: &TermSet, n: &NoiseSet, spins: u32, row: u64) -> Contribu
 {
     let mut all = Contributions::new();
     for t in h.held() {
-        all.add(&of_commutator(t.key.masks(), whole(t.coefficient), spins, row));
+        let _ = all.add(&of_commutator(t.key.masks(), whole(t.coefficient), spins, row));
     }
     for t in n.held() {
         let masks = Masks {
             left: t.key.0.masks(),
             right: t.key.1.masks(),
         };
-        all.add(&of_noise(masks, whole(t.coefficient), spins, row));
+        let _ = all.add(&of_noise(masks, whole(t.coefficient), spins, row));
     }
     all
 }

@@ -2,20 +2,26 @@
 use Prim.Native.Nat.{ℕ, ◌+◌, ◌*◌, ◌^◌, ◌≤◌, ◌<◌}
 use native.Mathlib.Omega.{arith}
 use mathlib.Core.Path.{◌≡◌, refl, sym, ap, ap₂, ◌∙◌}
-use mathlib.Core.Bool.{Bool, true, false, cond}
+use mathlib.Core.Bool.{Bool, true, false, ◌&&◌, cond}
 use mathlib.Core.List.{List, [], ◌∷◌, ◌++◌, map}
 use lib.IntN.{nat_abs}
-use lib.ListN.{length}
-use lib.Dec.{eqb, ltb}
+use lib.ListN.{length, length-map}
+use lib.Dec.{leb, eqb, ltb}
+use borrow.Author.Tests.{le-leb, lt-leb}
+use Rattle.std.specs.List.{list_all}
+use Rattle.refusal.specs.Refusals.{gives, refuses}
 use Rattle.letters.specs.Gauss.{G, 𝟙, −𝟙, ◌⊕◌, ⊝, ◌⊗◌, i^}
 use Rattle.letters.proofs.GaussLaws.{⊗_assoc, ⊕_⊗, 𝟙_⊗, ⊝-𝟙, ⊝_⊗}
 use Rattle.letters.proofs.TestLaws.{and_true, and_left, and_right}
 use Rattle.master_equation.specs.Equation.{𝟚}
 use Rattle.master_equation.specs.Numbers.{halves}
 use Rattle.rows.specs.Buffers.{most_entries}
+use Rattle.rows.specs.Calls.{unless_malformed}
+use Rattle.rows.specs.Pairs.{pairs}
 use Rattle.rows.specs.Placing.{placed, place_all, row_of, nonzero, kept_by, row_in}
+use Rattle.rows.specs.declared.Entry.{Entry}
 use Rattle.rows.proofs.PlacingLaws.{placed_cases}
-use Rattle.exact_sums.specs.ExactSums.{within, largest_contribution, all_small}
+use Rattle.exact_sums.specs.ExactSums.{whole, within, largest_contribution, all_small, exact_answer}
 use Rattle.exact_sums.specs.Wrapped.{turned, sum_of, wrapped}
 use Rattle.exact_sums.specs.Exact.{exact_pair}
 use Rattle.exact_sums.specs.declared.Halves.{Halves}
@@ -178,3 +184,39 @@ pub row_exact : (es : List (ℕ × Halves)) → length es ≤ most_entries → a
     → map exact_pair (row_in wrapped false es) ≡ row_in halves false (map exact_pair es)
 unfolding row_in kept_by row_of
 row_exact es few small = nonzero_exact (place_all sum_of es []) ∙ ap (nonzero halves.is_zero) (all_exact 0 es [] (omega arith) small (unfold Sums in tt))
+
+-- ---- what is answered of contributions
+
+-- too many, or one too large
+pub exact_many : (l : List (ℕ × G)) → most_entries < length l → refuses 0 [] ≡ exact_answer l
+unfolding exact_answer unless_malformed
+exact_many l h = rw (lt-leb (length l) most_entries h)
+
+pub exact_large : (l : List (ℕ × G)) → length l ≤ most_entries → all_small l ≡ false → refuses 0 [] ≡ exact_answer l
+unfolding exact_answer unless_malformed
+exact_large l few large = rw (le-leb (length l) most_entries few, large)
+
+-- at most 320 small ones
+pub exact_answered : (l : List (ℕ × G)) → length l ≤ most_entries → all_small l ≡ true → gives (row_in halves false l) ≡ exact_answer l
+unfolding exact_answer unless_malformed
+exact_answered l few small = rw (le-leb (length l) most_entries few, small)
+
+-- each is tested
+pub smalls : (es : List (Entry Halves)) → list_all (λ e. within largest_contribution (whole e.value.re e.value.im)) es ≡ all_small (map exact_pair (pairs es))
+unfolding all_small
+smalls [] = refl
+smalls (e ∷ es) = ap (λ (b : Bool). within largest_contribution (whole e.value.re e.value.im) && b) (smalls es)
+
+module _ (es : List (Entry Halves)) (few : length es ≤ most_entries) where
+  few_pairs : length (map exact_pair (pairs es)) ≤ most_entries
+  few_pairs = omega (arith, few, length-map (pairs es) exact_pair, length-map {B = ℕ × Halves} es (λ (e : Entry Halves). (e.column, e.value)))
+
+  pub entries_large : all_small (map exact_pair (pairs es)) ≡ false → refuses 0 [] ≡ exact_answer (map exact_pair (pairs es))
+  entries_large large = exact_large (map exact_pair (pairs es)) few_pairs large
+
+  pub entries_small : all_small (map exact_pair (pairs es)) ≡ true → (row : List (ℕ × Halves)) → row ≡ row_in wrapped false (pairs es)
+      → gives (map exact_pair row) ≡ exact_answer (map exact_pair (pairs es))
+  entries_small small row e =
+      ap (λ (l : List (ℕ × Halves)). gives (map exact_pair l)) e
+      ∙ ap gives (row_exact (pairs es) (omega (arith, few, length-map {B = ℕ × Halves} es (λ (e : Entry Halves). (e.column, e.value)))) small)
+      ∙ exact_answered (map exact_pair (pairs es)) few_pairs small

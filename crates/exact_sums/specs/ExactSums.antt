@@ -1,10 +1,12 @@
 -- Rows over whole numbers counted in halves, in signed 64-bit parts: what a call that delivers such a row answers.
 -- Document 01, `Rows`: "the same sums over whole numbers, counted in halves (signed 64-bit parts), zero sums left out".
-use Rattle.std.specs.Prelude.{ℕ, ◌^◌, Bool, true, ◌&&◌, List, [], ◌∷◌, leb, ℤ, nat_abs}
+use Rattle.std.specs.Prelude.{ℕ, ◌^◌, Bool, true, false, ◌&&◌, List, [], ◌∷◌, leb, ℤ, nat_abs, length}
 use Rattle.refusal.specs.Refusals.{Said}
 use Rattle.letters.specs.Gauss.{G}
-use Rattle.rows.specs.Buffers.{TwoParts}
-use Rattle.rows.specs.Calls.{RowCallIn}
+use Rattle.master_equation.specs.Numbers.{halves}
+use Rattle.rows.specs.Placing.{row_in}
+use Rattle.rows.specs.Buffers.{TwoParts, most_entries}
+use Rattle.rows.specs.Calls.{unless_malformed, RowCallIn}
 
 -- the whole number x + y i
 abbrev pub whole : ℤ → ℤ → G
@@ -28,7 +30,10 @@ unfoldable pub all_small : List (ℕ × G) → Bool
 all_small [] = true
 all_small (x ∷ xs) = within largest_contribution x.1 && all_small xs
 
--- ---- what a call answers
+-- ---- what a call answers that is handed the contributions l: 0 where there are too many, or one is too large
+
+unfoldable pub exact_answer : List (ℕ × G) → Said (List (ℕ × G))
+exact_answer l = unless_malformed (leb (length l) most_entries && all_small l) (row_in halves false l)
 
 abbrev pub ExactCall : Said (List (ℕ × G)) → Said ℕ → (a a' : List ℕ) (b b' c c' : List ℤ) → Type 0
 ExactCall x r a a' b b' c c' = RowCallIn whole_parts x r a a' b b' c c'

@@ -1,10 +1,18 @@
 // Whole numbers counted in halves, in signed 64-bit parts, as the numbers of rows.
 #![tactic(auto)]
 
-ghost use Rattle.std.specs.Prelude.{◌≡◌};
+ghost use Rattle.std.specs.Prelude.{◌≡◌, map};
+ghost use Rattle.rows.specs.Entries.{contributions_of};
+ghost use Rattle.exact_sums.specs.ExactSums.{whole, within, largest_contribution, exact_answer};
+ghost use Rattle.exact_sums.specs.Exact.{exact_pair, said_exact};
 ghost use Rattle.exact_sums.specs.Wrapped.{turned};
 
+use refusal::Refusal;
 use rows::number::{Number, Parts};
+use rows::{Contributions, Row};
+
+// 2^52, the largest part of a contribution.
+const LARGEST_CONTRIBUTION: u64 = 4503599627370496;
 
 // A number of halves; or, as a coefficient, a whole number.
 #[derive(Clone, Copy, Default)]
@@ -34,6 +42,25 @@ impl Halves {
             },
         }
     }
+
+    // Whether both parts are at most 2^52 in size, so that the sum of 320 such numbers fits 64 bits.
+    #[tactic(auto, unfolding(crate::specs::ExactSums::within))]
+    fn is_small(self) -> bool
+        ensures { result ≡ within largest_contribution (whole self.re self.im) }
+    {
+        self.re.unsigned_abs() <= LARGEST_CONTRIBUTION
+            && self.im.unsigned_abs() <= LARGEST_CONTRIBUTION
+    }
+}
+
+// The exact row of contributions, which zero sums are left out of. One with a part over 2^52 in size is refused.
+pub fn row(all: &Contributions<Halves>) -> Result<Row<Halves>, Refusal>
+    ensures { said_exact result ≡ exact_answer (map exact_pair (contributions_of all.now)) }
+{
+    if !all.entries().iter().all(|e| e.value.is_small()) {
+        return Err(Refusal::Malformed);
+    }
+    Ok(all.row(false))
 }
 
 // Each operation wraps around at 64 bits; of small numbers none does (`ExactLaws`).

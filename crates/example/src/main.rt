@@ -1,12 +1,11 @@
 // Prints exact rows of a small system, or why a call is refused.
 #![tactic(auto)]
 
-use printing::Places;
+use printing::{Places, print_entries};
 use spins::{
     Complex, DecoherenceProduct, PauliHamiltonian, PauliLindbladNoiseOperator,
     PauliLindbladOpenSystem, PauliProduct, Refusal, exact_row,
 };
-use std::io;
 
 // The letter codes; 2 is Y in a Pauli product and iY in a decoherence product.
 const X: u8 = 1;
@@ -24,21 +23,28 @@ fn system() -> Result<PauliLindbladOpenSystem, Refusal> {
     PauliLindbladOpenSystem::group(h, noise)
 }
 
-fn print_row(rt: &impl Print, s: &PauliLindbladOpenSystem, spins: u32, row: u64) -> io::Result<()> {
+fn print_row(rt: &impl Print, s: &PauliLindbladOpenSystem, spins: u32, row: u64) {
     let mut lent = Places::new();
     match exact_row(s, spins, row, &mut lent.columns, &mut lent.re, &mut lent.im) {
-        Ok(n) => print!(rt; "{}", lent.entries(row, n)),
-        Err(why) => println!(rt; "refused under number {}", why.number()),
+        Ok(n) => {
+            print_entries(rt, row, n, &lent);
+        }
+        Err(why) => print_refusal(rt, why),
     }
 }
 
-fn main(rt: HostRuntime) -> io::Result<()> {
+// What can't be printed is passed over.
+fn print_refusal(rt: &impl Print, why: Refusal) {
+    let _ = println!(rt; "refused under number {}", why.number());
+}
+
+fn main(rt: HostRuntime) {
     match system() {
         Ok(s) => {
-            print_row(&rt, &s, 1, 0)?;
-            print_row(&rt, &s, 1, 1)?;
-            print_row(&rt, &s, 0, 0)
+            print_row(&rt, &s, 1, 0);
+            print_row(&rt, &s, 1, 1);
+            print_row(&rt, &s, 0, 0);
         }
-        Err(why) => println!(rt; "refused under number {}", why.number()),
+        Err(why) => print_refusal(&rt, why),
     }
 }

@@ -1,8 +1,6 @@
 // Lent buffers: what they hold before a call, and whether they hold it after one.
-ghost use Rattle.std.specs.Prelude.{replicate, ◌≡◌, ◌==◌, ◌&&◌, min, length, vec_len, IfOk};
+ghost use Rattle.std.specs.Prelude.{replicate, ◌≡◌, ◌==◌, ◌&&◌, min, length};
 ghost use Rattle.observations.specs.Buffers.{each_from};
-
-use std::alloc::{AllocError, Global};
 
 // The places of a buffer: the most entries of a row, and some past them.
 pub const PLACES: usize = 324;
@@ -65,46 +63,47 @@ impl Room {
     }
 }
 
+// The first places of a buffer, at most all of them.
+fn first<T: Lent>(buffer: &mut [T; PLACES], n: usize) -> &mut [T]
+    ensures { length result.now ≡ min n PLACES }
+{
+    &mut buffer[..n.min(PLACES)]
+}
+
 // The three buffers of a row call: columns, real parts and imaginary parts.
 #[derive(Drop)]
 pub struct Buffers<T> {
-    pub columns: Vec<u64>,
-    pub re: Vec<T>,
-    pub im: Vec<T>,
+    pub columns: [u64; PLACES],
+    pub re: [T; PLACES],
+    pub im: [T; PLACES],
 }
 
 impl<T: Lent> Buffers<T> {
     // As they are before a call.
-    pub fn new(alloc: Global) -> Result<Buffers<T>, AllocError>
-        ensures lengths { IfOk result (λ b. (vec_len b.columns ≡ PLACES) × (vec_len b.re ≡ PLACES) × (vec_len b.im ≡ PLACES)) }
-        ensures columns { IfOk result (λ b. b.columns.items ≡ replicate PLACES 77) }
-        ensures re { IfOk result (λ b. ((y : T) → T.is_clone T.OLD y → y ≡ T.OLD) → b.re.items ≡ replicate PLACES T.OLD) }
-        ensures im { IfOk result (λ b. ((y : T) → T.is_clone T.OLD y → y ≡ T.OLD) → b.im.items ≡ replicate PLACES T.OLD) }
+    pub fn new() -> Buffers<T>
+        ensures { result ≡ record { columns = replicate PLACES 77; re = replicate PLACES T.OLD; im = replicate PLACES T.OLD } }
     {
-        Ok(Buffers {
-            columns: vec![in alloc; u64::OLD; PLACES]?,
-            re: vec![in alloc; T::OLD; PLACES]?,
-            im: vec![in alloc; T::OLD; PLACES]?,
-        })
+        Buffers {
+            columns: [u64::OLD; PLACES],
+            re: [T::OLD; PLACES],
+            im: [T::OLD; PLACES],
+        }
     }
 
     // The first places of each, at most all of them.
     pub fn lend(&mut self, room: Room) -> (&mut [u64], &mut [T], &mut [T])
-        ensures { (length result.0.now ≡ min room.columns (vec_len self.old.columns)) × (length result.1.now ≡ min room.re (vec_len self.old.re)) × (length result.2.now ≡ min room.im (vec_len self.old.im)) }
+        ensures { (length result.0.now ≡ min room.columns PLACES) × (length result.1.now ≡ min room.re PLACES) × (length result.2.now ≡ min room.im PLACES) }
     {
-        let columns = room.columns.min(self.columns.len());
-        let re = room.re.min(self.re.len());
-        let im = room.im.min(self.im.len());
         (
-            &mut self.columns[..columns],
-            &mut self.re[..re],
-            &mut self.im[..im],
+            first(&mut self.columns, room.columns),
+            first(&mut self.re, room.re),
+            first(&mut self.im, room.im),
         )
     }
 
     // Whether the places from n on are as before.
     pub fn kept(&self, n: usize) -> bool
-        ensures { result ≡ (each_from (λ x. x == 77) n self.now.columns.items && each_from (λ x. T.eq x T.OLD) n self.now.re.items && each_from (λ x. T.eq x T.OLD) n self.now.im.items) }
+        ensures { result ≡ (each_from (λ x. x == 77) n self.now.columns && each_from (λ x. T.eq x T.OLD) n self.now.re && each_from (λ x. T.eq x T.OLD) n self.now.im) }
     {
         kept(&self.columns, n) && kept(&self.re, n) && kept(&self.im, n)
     }

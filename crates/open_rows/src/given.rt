@@ -21,7 +21,7 @@ pub(crate) fn terms_given(terms: &MaskedTerms<f64>, spins: u32, row: u64) -> Con
     let mut all = Contributions::new();
     for t in terms.as_slice() {
         let c = Complex::from(t.coefficient);
-        all.add(&of_commutator(t.masks.left, c, spins, row));
+        let _ = all.add(&of_commutator(t.masks.left, c, spins, row));
     }
     all
 }
@@ -37,7 +37,7 @@ pub(crate) fn pairs_given(
 {
     let mut all = Contributions::new();
     for t in pairs.as_slice() {
-        all.add(&of_noise(t.masks, t.coefficient, spins, row));
+        let _ = all.add(&of_noise(t.masks, t.coefficient, spins, row));
     }
     all
 }

@@ -19,7 +19,7 @@ pub(crate) fn operator_given(s: &TermSet, spins: u32, row: u64) -> Contributions
 {
     let mut all = Contributions::new();
     for t in s.held() {
-        all.add(&[of_operator(Kind::Pauli, t.key.masks(), t.coefficient, spins, row)]);
+        let _ = all.add(&[of_operator(Kind::Pauli, t.key.masks(), t.coefficient, spins, row)]);
     }
     all
 }
@@ -30,7 +30,7 @@ pub(crate) fn commutator_given(s: &TermSet, spins: u32, row: u64) -> Contributio
 {
     let mut all = Contributions::new();
     for t in s.held() {
-        all.add(&of_commutator(t.key.masks(), t.coefficient, spins, row));
+        let _ = all.add(&of_commutator(t.key.masks(), t.coefficient, spins, row));
     }
     all
 }

@@ -90,3 +90,12 @@ impl Display for Entries<'_> {
         Ok(())
     }
 }
+
+// Prints the first n entries of a row, a line each, as far as they can be printed; gives how many there are. Past the last place there is none.
+pub fn print_entries(rt: &impl Print, row: u64, n: usize, lent: &Places) -> usize
+    ensures { result ≡ min n most_entries }
+{
+    let entries = lent.entries(row, n);
+    let _ = print!(rt; "{entries}");
+    entries.columns.len()
+}

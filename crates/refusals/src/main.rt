@@ -13,12 +13,16 @@ mod set_records;
 mod single_letters;
 mod table;
 
-use std::io;
-use std::io::{BufRead, BufReader};
+use std::io::Read;
+use table::Line;
 
-fn main(rt: HostRuntime) -> io::Result<()> {
-    for line in BufReader::new(rt.alloc(), rt.reader())?.lines(rt.alloc()) {
-        table::run(&rt, line?.as_str())?;
+// Text that can't be printed is passed over, and the input ends where it can't be read.
+fn main(rt: HostRuntime) {
+    let mut line = Line::new();
+    for byte in rt.reader().bytes() {
+        let Ok(byte) = byte else {
+            return;
+        };
+        let _ = line.read(&rt, byte);
     }
-    Ok(())
 }

@@ -1,7 +1,6 @@
 // The numbers of a case, and what they stand for: coefficients, products and targets, well-formed or not.
 use spins::{CAPACITY, Complex, Items, SITE_COUNT, Site};
 use std::array;
-use std::str::Split;
 
 // 2^300, the largest coefficient, and the next f64 above it.
 const LIMIT: f64 =
@@ -120,22 +119,21 @@ fn product(x: u64) -> Items {
 // The numbers that have not been read.
 #[derive(Drop)]
 pub(crate) struct Numbers<'a> {
-    words: Split<'a, char>,
+    rest: &'a [u64],
 }
 
 impl<'a> Numbers<'a> {
-    pub(crate) fn new(text: &'a str) -> Numbers<'a> {
-        Numbers {
-            words: text.split(' '),
-        }
+    pub(crate) fn new(numbers: &'a [u64]) -> Numbers<'a> {
+        Numbers { rest: numbers }
     }
 
     // The next number, 0 where none is left.
     pub(crate) fn number(&mut self) -> u64 {
-        self.words
-            .next()
-            .and_then(|word| word.parse().ok())
-            .unwrap_or(0)
+        let Some((first, rest)) = self.rest.split_first() else {
+            return 0;
+        };
+        self.rest = rest;
+        *first
     }
 
     // A site or a letter.

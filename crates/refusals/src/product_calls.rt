@@ -45,7 +45,7 @@ pub(crate) fn call(rt: &impl Print, entry: u64, numbers: &mut Numbers) -> io::Re
     let kind = numbers.number();
     match (entry, kind) {
         (17, _) => convert(rt, kind, numbers),
-        (18, _) => row(rt, numbers),
+        (18 | 19, _) => row(rt, numbers),
         (_, 0) => call_on::<PauliLetters>(rt, entry, numbers),
         _ => call_on::<DecoherenceLetters>(rt, entry, numbers),
     }

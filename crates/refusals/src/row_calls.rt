@@ -65,12 +65,12 @@ fn halves_row(a: &Asked, room: Room, lent: &mut Buffers<i64>) -> Result<usize, R
 
 // The count or the number that a call answers, and whether the rest of the buffers is as before.
 fn delivered<T: Lent, F: FnOnce(&mut Buffers<T>) -> Result<usize, Refusal>>(
-    rt: &(impl Print + AllocGlobal),
+    rt: &impl Print,
     call: F,
 ) -> io::Result<()>
     requires { F.IsAlwaysCallable call }
 {
-    let mut lent = Buffers::new(rt.alloc())?;
+    let mut lent = Buffers::new();
     let answer = call(&mut lent);
     let n = answer.unwrap_or(0);
     let after = if lent.kept(n) { "as before" } else { "changed" };
@@ -80,11 +80,7 @@ fn delivered<T: Lent, F: FnOnce(&mut Buffers<T>) -> Result<usize, Refusal>>(
     }
 }
 
-pub(crate) fn call(
-    rt: &(impl Print + AllocGlobal),
-    entry: u64,
-    numbers: &mut Numbers,
-) -> io::Result<()> {
+pub(crate) fn call(rt: &impl Print, entry: u64, numbers: &mut Numbers) -> io::Result<()> {
     let asked = numbers.asked();
     let room = numbers.room();
     if entry == 56 {

@@ -1,13 +1,75 @@
-// A line of the table: numbers, the first of them the entry, and then the name of the case.
+// A line of the table: numbers, each before a blank and the first of them the entry, and then the name of the case, which is printed as it is read.
 use crate::numbers::Numbers;
 use crate::{chain_calls, noise_calls, product_calls, row_calls, set_calls, single_letters};
 use std::io;
 
+// The most numbers of a line; those past them are not looked at.
+const MOST_NUMBERS: usize = 26;
+
+// From here on a number takes no further digit.
+const LONG: u64 = 1000000000000000000;
+
+// A line as far as it is read: the number that is being read and those before it, and whether the name has begun.
+#[derive(Clone, Copy)]
+pub(crate) struct Line {
+    number: u64,
+    numbers: [u64; MOST_NUMBERS],
+    count: usize,
+    is_named: bool,
+}
+
+impl Line {
+    pub(crate) fn new() -> Self {
+        Line {
+            number: 0,
+            numbers: [0; MOST_NUMBERS],
+            count: 0,
+            is_named: false,
+        }
+    }
+
+    fn add_digit(&mut self, digit: u8) {
+        if self.number < LONG {
+            self.number = self.number * 10 + u64::from(digit % 16);
+        }
+    }
+
+    fn end_number(&mut self) {
+        if let Some(place) = self.numbers.get_mut(self.count) {
+            *place = self.number;
+            self.count += 1;
+        }
+        self.number = 0;
+    }
+
+    // Takes in one byte more. A line that ends is run.
+    pub(crate) fn read(&mut self, rt: &impl Print, byte: u8) -> io::Result<()> {
+        match byte {
+            b'\n' => {
+                let numbers = self.numbers;
+                *self = Line::new();
+                run(rt, &numbers)
+            }
+            b' ' if !self.is_named => {
+                self.end_number();
+                Ok(())
+            }
+            b'0'..=b'9' if !self.is_named => {
+                self.add_digit(byte);
+                Ok(())
+            }
+            _ => {
+                self.is_named = true;
+                rt.write_all(&[byte])
+            }
+        }
+    }
+}
+
 // The call of a line, printed after its name.
-pub(crate) fn run(rt: &(impl Print + AllocGlobal), line: &str) -> io::Result<()> {
-    let name = line.trim_start_matches(|c: char| c == ' ' || c.is_ascii_digit());
-    print!(rt; "{name}: ")?;
-    let mut numbers = Numbers::new(line.strip_suffix(name).unwrap_or(line));
+fn run(rt: &impl Print, line: &[u64]) -> io::Result<()> {
+    let _ = print!(rt; ": ");
+    let mut numbers = Numbers::new(line);
     let entry = numbers.number();
     match entry {
         0..=9 => single_letters::call(rt, entry, &mut numbers),

@@ -1,28 +1,9 @@
 // What a row call delivers into lent buffers, printed on one line.
 use observations::buffers::{Buffers, Room};
 use observations::records::bits;
-use spins::{PauliLindbladOpenSystem, Refusal, open_row};
+use spins::{PauliLindbladOpenSystem, open_row};
+use std::fmt;
 use std::fmt::{Display, Formatter};
-use std::{fmt, io};
-
-// Why the program stops: a system that it makes is refused, or it can't print.
-#[derive(Debug, Drop)]
-pub(crate) enum Failure {
-    Refused(Refusal),
-    Io(io::Error),
-}
-
-impl From<Refusal> for Failure {
-    fn from(why: Refusal) -> Failure {
-        Failure::Refused(why)
-    }
-}
-
-impl From<io::Error> for Failure {
-    fn from(error: io::Error) -> Failure {
-        Failure::Io(error)
-    }
-}
 
 // The modulus of the sums.
 const PRIME: u64 = 1000000007;
@@ -112,25 +93,25 @@ impl Display for Delivered<'_> {
     }
 }
 
-// A row call with some places of each buffer, printed under its name; the count, 0 where it is refused.
+// A row call with some places of each buffer, printed under its name; the count, 0 where it is refused. What can't be printed is passed over.
 pub(crate) fn lent(
-    rt: &(impl Print + AllocGlobal),
+    rt: &impl Print,
     name: impl Display + Drop,
     s: &PauliLindbladOpenSystem,
     spins: u32,
     row: u64,
     room: Room,
-) -> io::Result<usize> {
-    let mut buffers = Buffers::new(rt.alloc())?;
+) -> usize {
+    let mut buffers = Buffers::new();
     let (columns, re, im) = buffers.lend(room);
-    print!(rt; "{name}: ")?;
+    let _ = print!(rt; "{name}: ");
     let answer = open_row(s, spins, row, columns, re, im);
-    match answer {
-        Ok(n) => print!(rt; "{}", Delivered::new(&buffers, n))?,
-        Err(why) => print!(rt; "refused {why}")?,
-    }
+    let _ = match answer {
+        Ok(n) => print!(rt; "{}", Delivered::new(&buffers, n)),
+        Err(why) => print!(rt; "refused {why}"),
+    };
     let n = answer.unwrap_or(0);
     let rest = if buffers.kept(n) { "ok" } else { "changed" };
-    println!(rt; "; rest {rest}")?;
-    Ok(n)
+    let _ = println!(rt; "; rest {rest}");
+    n
 }

@@ -13,7 +13,7 @@ use Rattle.rows.specs.Buffers.{most_entries}
 use Rattle.rows.specs.Calls.{unless_malformed}
 use Rattle.rows.specs.Placing.{placed, place_all, row_of, nonzero, kept_by, row_in}
 use Rattle.rows.specs.Pairs.{pairs}
-use Rattle.rows.specs.Room.{added_where_room}
+use Rattle.rows.specs.Room.{added_where_room, done_where_room}
 use Rattle.rows.specs.declared.Entry.{Entry}
 use Rattle.rows.proofs.PlacingLaws.{placed_cases}
 
@@ -33,6 +33,15 @@ module _ {N : Type 0} where
 
   pub array_full : (xs l : List (Entry N)) → most_entries < length l + length xs → pairs l ≡ added_where_room (pairs xs) (pairs l)
   array_full xs l h = rw (added_none (pairs xs) (pairs l) (rw (length-map, length-map) h))
+
+  -- and what is answered
+  pub array_done : (xs l : List (Entry N)) → length l + length xs ≤ most_entries → gives tt ≡ done_where_room (pairs xs) (pairs l)
+  unfolding done_where_room
+  array_done xs l h = rw (le-leb (length (pairs l) + length (pairs xs)) most_entries (rw (length-map, length-map) h))
+
+  pub array_refused : (xs l : List (Entry N)) → most_entries < length l + length xs → refuses 0 [] ≡ done_where_room (pairs xs) (pairs l)
+  unfolding done_where_room
+  array_refused xs l h = rw (lt-leb (length (pairs l) + length (pairs xs)) most_entries (rw (length-map, length-map) h))
 
 -- ---- no more entries than contributions
 

@@ -1,13 +1,14 @@
 // Rows: contributions sorted by column and added up, and delivered into lent buffers. Over any numbers.
 #![tactic(auto)]
 
-ghost use Rattle.std.specs.Prelude.{◌≡◌, ◌+◌, [], leb, length};
+ghost use Rattle.std.specs.Prelude.{◌≡◌, ◌+◌, ◌≤◌, [], leb, length};
+ghost use Rattle.refusal.specs.Refusals.{said_done};
 ghost use Rattle.rows.specs.Pairs.{pairs};
 ghost use Rattle.rows.specs.Entries.{contributions_of, entries_of, said_row};
 ghost use Rattle.rows.specs.Buffers.{most_entries};
 ghost use Rattle.rows.specs.Calls.{unless_malformed};
 ghost use Rattle.rows.specs.Placing.{row_in, open_row_in};
-ghost use Rattle.rows.specs.Room.{added_where_room};
+ghost use Rattle.rows.specs.Room.{added_where_room, done_where_room};
 ghost use Rattle.rows.specs.Plus.{plus};
 
 mod delivery;
@@ -64,13 +65,23 @@ impl<V: Number> Contributions<V> {
         }
     }
 
-    // More of them, where there is room for all.
-    pub fn add(&mut self, es: &[Entry<V>])
-        ensures { contributions_of self.new ≡ added_where_room (pairs es.now) (contributions_of self.old) }
+    // More of them, where there is room for all; else they stay as they are.
+    pub fn add(&mut self, es: &[Entry<V>]) -> Result<(), Refusal>
+        ensures answer { said_done result ≡ done_where_room (pairs es.now) (contributions_of self.old) }
+        ensures list { contributions_of self.new ≡ added_where_room (pairs es.now) (contributions_of self.old) }
     {
         if self.entries.try_extend_from_slice(es).is_err() {
-            return;
+            return Err(Refusal::Malformed);
         }
+        Ok(())
+    }
+
+    // In their order.
+    pub fn entries(&self) -> &[Entry<V>]
+        ensures list { pairs result.now ≡ contributions_of self.now }
+        ensures few { length result.now ≤ most_entries }
+    {
+        self.entries.as_slice()
     }
 
     // Their row, with zero sums or without.

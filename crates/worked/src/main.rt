@@ -5,11 +5,11 @@
 mod report;
 mod system;
 
-use std::io;
-
-fn main(rt: HostRuntime) -> io::Result<()> {
+fn main(rt: HostRuntime) {
     match system::worked() {
         Ok(s) => report::print_rows(&rt, &s),
-        Err(why) => println!(rt; "refused under number {}", why.number()),
+        Err(why) => {
+            let _ = println!(rt; "refused under number {}", why.number());
+        }
     }
 }

@@ -1,10 +1,9 @@
 // The rows of a system over one spin, printed.
-ghost use Rattle.std.specs.Prelude.{◌≤◌};
+ghost use Rattle.std.specs.Prelude.{◌≤◌, ◌*◌};
 ghost use Rattle.rows.specs.Buffers.{most_entries};
 
-use printing::Places;
+use printing::{Places, print_entries};
 use spins::{PauliLindbladOpenSystem, exact_row};
-use std::io;
 
 const SPINS: u32 = 1;
 
@@ -19,7 +18,9 @@ fn row_into(s: &PauliLindbladOpenSystem, row: u64, lent: &mut Places) -> usize
 }
 
 // How many entries all rows have.
-fn entries_of(s: &PauliLindbladOpenSystem) -> usize {
+fn entries_of(s: &PauliLindbladOpenSystem) -> usize
+    ensures { result ≤ most_entries * ROWS }
+{
     let mut lent = Places::new();
     let mut entries = 0;
     for row in 0..ROWS {
@@ -28,13 +29,12 @@ fn entries_of(s: &PauliLindbladOpenSystem) -> usize {
     entries
 }
 
-// A header, and then the rows, each by ascending column.
-pub(crate) fn print_rows(rt: &impl Print, s: &PauliLindbladOpenSystem) -> io::Result<()> {
-    println!(rt; "spins {SPINS} entries {}", entries_of(s))?;
+// A header, and then the rows, each by ascending column. What can't be printed is passed over.
+pub(crate) fn print_rows(rt: &impl Print, s: &PauliLindbladOpenSystem) {
+    let _ = println!(rt; "spins {SPINS} entries {}", entries_of(s));
     let mut lent = Places::new();
     for row in 0..ROWS {
         let n = row_into(s, row, &mut lent);
-        print!(rt; "{}", lent.entries(row, n))?;
+        print_entries(rt, row, n, &lent);
     }
-    Ok(())
 }

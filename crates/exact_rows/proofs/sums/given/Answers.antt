@@ -11,7 +11,7 @@ loop-t-init c = turns_none _ c.new-all.ensures
 
 pub loop-t-preserved : goal.loop-t-preserved
 loop-t-preserved c =
-    turns_more _ c.loop-t.invariant _ c.loop-t-test.true c.add.ensures
+    turns_more _ c.loop-t.invariant _ c.loop-t-test.true c.add.ensures.list
     (c.of_commutator.ensures
     ∙ (λ j. commutator_values wrapped (c.masks.ensures j) (record { re = c.whole.ensures.parts.0 j; im = c.whole.ensures.parts.1 j }) c.args.spins c.args.row))
 
@@ -20,7 +20,7 @@ loop-t-2-init c = turns_none _ refl
 
 pub loop-t-2-preserved : goal.loop-t-2-preserved
 loop-t-2-preserved c =
-    turns_more _ c.loop-t-2.invariant _ c.loop-t-2-test.true c.add-in-loop-t-2.ensures
+    turns_more _ c.loop-t-2.invariant _ c.loop-t-2-test.true c.add-in-loop-t-2.ensures.list
     (c.of_noise.ensures
     ∙ (λ j.
     noise_values wrapped (c.masks-in-loop-t-2.ensures j) (c.masks-in-loop-t-2-2.ensures j)

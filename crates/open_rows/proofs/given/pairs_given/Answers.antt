@@ -17,7 +17,7 @@ pub loop-t-init : goal.loop-t-init
 loop-t-init c = turns_none (noise_given c.args.spins c.args.row) c.new-all.ensures
 
 pub loop-t-preserved : goal.loop-t-preserved
-loop-t-preserved c = turns_more (noise_given c.args.spins c.args.row) c.loop-t.invariant _ c.loop-t-test.true c.add.ensures c.of_noise.ensures
+loop-t-preserved c = turns_more (noise_given c.args.spins c.args.row) c.loop-t.invariant _ c.loop-t-test.true c.add.ensures.list c.of_noise.ensures
 
 -- all of them are there
 all_given : (c : After-loop-t) → contributions_of c.loop-t.all ≡ concat_map (noise_given c.args.spins c.args.row) c.as_slice-t-items.result.now

@@ -19,7 +19,7 @@ loop-t-init c = turns_none (commutator_given c.args.spins c.args.row) c.new-all.
 pub loop-t-preserved : goal.loop-t-preserved
 loop-t-preserved c =
     let e = rw c.from-c.ensures at c.of_commutator.ensures in
-    turns_more (commutator_given c.args.spins c.args.row) c.loop-t.invariant _ c.loop-t-test.true c.add.ensures e
+    turns_more (commutator_given c.args.spins c.args.row) c.loop-t.invariant _ c.loop-t-test.true c.add.ensures.list e
 
 -- all of them are there
 all_given : (c : After-loop-t) → contributions_of c.loop-t.all ≡ concat_map (commutator_given c.args.spins c.args.row) c.as_slice-t-items.result.now

@@ -13,7 +13,7 @@ loop-t-init c = turns_none _ c.new-all.ensures
 
 pub loop-t-preserved : goal.loop-t-preserved
 loop-t-preserved c =
-    turns_more _ c.loop-t.invariant _ c.loop-t-test.true c.add.ensures
+    turns_more _ c.loop-t.invariant _ c.loop-t-test.true c.add.ensures.list
     (rw c.masks.ensures at c.of_commutator.ensures)
 
 pub returns : goal.returns

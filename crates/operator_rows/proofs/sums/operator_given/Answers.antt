@@ -17,7 +17,7 @@ loop-t-init c = turns_none _ c.new-all.ensures
 pub loop-t-preserved : goal.loop-t-preserved
 unfolding letters_of
 loop-t-preserved c =
-    turns_more _ c.loop-t.invariant _ c.loop-t-test.true c.add.ensures
+    turns_more _ c.loop-t.invariant _ c.loop-t-test.true c.add.ensures.list
     (ap (λ e. e ∷ []) (rw c.masks.ensures at c.of_operator.ensures))
 
 pub returns : goal.returns
