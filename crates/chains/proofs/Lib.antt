@@ -1,4 +1,5 @@
 pub mod StepLaws
+pub mod PassLaws
 pub mod ScaleLaws
 pub mod ValidAnswers
 pub mod HamiltonianProductAnswers

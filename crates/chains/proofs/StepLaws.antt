@@ -78,6 +78,21 @@ conjugate_step M x = changed_step (conjugate_answer M x.key) (conjugate_of x.coe
 abbrev pub convert_step : Letters → Letters → Term → List (Said Term)
 convert_step M M' x = changed_step (convert_answer M M' x.key) x.coefficient
 
+-- the terms that these give
+abbrev pub conjugate_term : Letters → Term → Term
+conjugate_term M x =
+    let z = (conjugate_answer M x.key).1 in
+    term_of z.1 (product_of (conjugate_of x.coefficient) (unit_of_I z.0))
+
+abbrev pub convert_term : Letters → Letters → Term → Term
+convert_term M M' x =
+    let z = (convert_answer M M' x.key).1 in
+    term_of z.1 (product_of x.coefficient (unit_of_I z.0))
+
+-- a step gives one term
+pub one_term : {t u : Term} → ◌≡◌ {A = List (Said Term)} (gives t ∷ []) (gives u ∷ []) → u ≡ t
+one_term {t} {u} e = cc
+
 pub conjugate_steps : (M : Letters) (l : List Term) → map gives (conjugates M l) ≡ concat_map (conjugate_step M) l
 unfolding conjugate_terms
 conjugate_steps M l = map-map gives _ l ∙ concat_map_one _ l

@@ -1,14 +1,16 @@
 // Chains of additions, which multiplying, conjugating and converting sets of terms are; and scaling, which keeps zeros.
-ghost use Rattle.std.specs.Prelude.{◌≡◌, true, [], map};
-ghost use Rattle.refusal.specs.Refusals.{gives};
+ghost use Rattle.std.specs.Prelude.{◌≡◌, ◌<◌, ◌≤◌, true, not, [], map, length};
+ghost use Rattle.refusal.specs.Refusals.{gives, said_done};
 ghost use Rattle.letters.specs.Matrices.{letters_of};
 ghost use Rattle.letters.specs.Answers.{other};
-ghost use Rattle.terms.specs.Setting.{add_all};
+ghost use Rattle.terms.specs.Keyed.{has, each};
+ghost use Rattle.terms.specs.Setting.{most_terms, keyed, add_all};
 ghost use Rattle.term_sets.specs.Complexes.{TermSet, held_by, filled, complex_terms};
-ghost use Rattle.chains.specs.ChainAnswers.{told, ended, product_steps, multiply_sets, conjugate_set, convert_set, scale_set};
+ghost use Rattle.chains.specs.ChainAnswers.{told, ended, product_steps, keep_term, multiply_sets, conjugate_set, convert_set, scale_set};
 
 use complex::Complex;
 use complex::coefficient::Coefficient;
+use items::Items;
 use letters::Kind;
 use refusal::Refusal;
 use term_sets::{Term, TermSet};
@@ -40,15 +42,39 @@ pub fn multiply(kind: Kind, zeros: bool, s: &TermSet, t: &TermSet) -> Result<Ter
     multiplied(kind, s, t)
 }
 
-// The terms of a set, added to nothing.
+// One term more, under a key that no other one has: its coefficient is added to zero, and a zero is not held.
+#[tactic(auto, unfolding(crate::specs::ChainAnswers::keep_term))]
+fn keep(out: &mut TermSet, key: &Items, value: Complex) -> Result<(), Refusal>
+    requires room { out.old.count < most_terms }
+    requires own { out.old ≡ filled (held_by out.old) }
+    ensures { (said_done result, out.new) ≡ keep_term key.now value out.old }
+{
+    let sum = Complex::zero().sum(value);
+    if sum.is_zero() {
+        return Ok(());
+    }
+    if !sum.in_range() {
+        return Err(Refusal::CoefficientOutOfRange);
+    }
+    out.terms[out.count] = Term {
+        key: *key,
+        coefficient: sum,
+    };
+    out.count += 1;
+    Ok(())
+}
+
+// Terms whose keys differ, added to nothing.
 pub(crate) fn collected(s: &TermSet) -> Result<TermSet, Refusal>
+    requires few { length (held_by s.now) ≤ most_terms }
+    requires differ { each (λ t ts. not (has (keyed complex_terms t.key) ts)) (held_by s.now) ≡ true }
     ensures { (back : TermSet) → told back result ≡ ended back (add_all complex_terms (map gives (held_by s.now)) []) }
 {
-    let mut sum = Adding::new();
+    let mut out = TermSet::new();
     for x in s.held() {
-        sum.add(x.key, x.coefficient)?;
+        keep(&mut out, &x.key, x.coefficient)?;
     }
-    sum.finished()
+    Ok(out)
 }
 
 // The conjugate transpose of a set.
@@ -59,13 +85,13 @@ pub fn conjugate(kind: Kind, zeros: bool, s: &TermSet) -> Result<TermSet, Refusa
     if !s.is_valid(zeros) {
         return Err(Refusal::Malformed);
     }
-    let mut sum = Adding::new();
+    let mut out = TermSet::new();
     for x in s.held() {
         let z = phases::conjugate(kind, &x.key)?;
         let unit = complex::unit_of_i(z.power);
-        sum.add(z.items, x.coefficient.conjugate().product(unit))?;
+        keep(&mut out, &z.items, x.coefficient.conjugate().product(unit))?;
     }
-    sum.finished()
+    Ok(out)
 }
 
 // A set in letters of the other kind.
@@ -76,13 +102,13 @@ pub fn convert(kind: Kind, zeros: bool, s: &TermSet) -> Result<TermSet, Refusal>
     if !s.is_valid(zeros) {
         return Err(Refusal::Malformed);
     }
-    let mut sum = Adding::new();
+    let mut out = TermSet::new();
     for x in s.held() {
         let z = phases::convert(kind, &x.key)?;
         let unit = complex::unit_of_i(z.power);
-        sum.add(z.items, x.coefficient.product(unit))?;
+        keep(&mut out, &z.items, x.coefficient.product(unit))?;
     }
-    sum.finished()
+    Ok(out)
 }
 
 // Every coefficient times a number; terms that become zero stay.

@@ -75,6 +75,30 @@ module _ {K N : Type 0} (S : Terms K N) where
   kept [] = []
   kept (t ∷ ts) = cond (S.is_zero (alone t)) (kept ts) (S.term (S.key t) (alone t) ∷ kept ts)
 
+  -- some terms, then others
+  pub kept_append : (l r : List S.Term) → kept (l ++ r) ≡ kept l ++ kept r
+  unfolding kept
+  kept_append [] r = refl
+  kept_append (t ∷ l) r =
+      by_test (S.is_zero (alone t))
+      (λ z. rw z (kept_append l r))
+      (λ z. rw z (ap (λ (m : List S.Term). S.term (S.key t) (alone t) ∷ m) (kept_append l r)))
+
+  -- no more terms than there were
+  pub kept_length : (l : List S.Term) → length (kept l) ≤ length l
+  unfolding kept
+  kept_length [] = omega arith
+  kept_length (t ∷ l) = let h = kept_length l in by_test (S.is_zero (alone t)) (λ z. rw z (omega arith)) (λ z. rw z (omega arith))
+
+  -- one term
+  pub kept_zero : (t : S.Term) → S.is_zero (alone t) ≡ true → kept (t ∷ []) ≡ []
+  unfolding kept
+  kept_zero t z = rw z
+
+  pub kept_other : (t : S.Term) → S.is_zero (alone t) ≡ false → kept (t ∷ []) ≡ S.term (S.key t) (alone t) ∷ []
+  unfolding kept
+  kept_other t z = rw z
+
   module _ (t : S.Term) (l : List S.Term) (free : has (keyed S (S.key t)) l ≡ false) where
     no_place : Nowhere l (has (keyed S (S.key t)) l) (held (keyed S (S.key t)) l) (λ x. written (keyed S (S.key t)) x l) (struck (keyed S (S.key t)) l)
     no_place = nowhere (keyed S (S.key t)) l (has_false (keyed S (S.key t)) l free)

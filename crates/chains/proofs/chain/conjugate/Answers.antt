@@ -1,46 +1,45 @@
--- `conjugate`: a step for each term, which is taken or finds no room; a valid product is not refused.
-use Rattle.std.proofs.Common.{◌∙◌, ap, sym, []}
-use Rattle.complex.specs.Coefficients.{complexes}
+-- `conjugate`: each changed term is kept, or the chain is refused with it; a valid product is not refused, and its change keeps it.
+use Rattle.std.proofs.Common.{◌∙◌, sym}
 use Rattle.letters.specs.Matrices.{letters_of}
-use Rattle.terms.specs.Setting.{add_all}
-use Rattle.term_sets.specs.Complexes.{held_by, complex_terms}
-use Rattle.term_sets.specs.Keys.{item_keys}
-use Rattle.term_writing.proofs.ChainLaws.{remaining_all, remaining_more, remaining_full, remaining_none, refused_told, end_told}
-use Rattle.chains.specs.ChainAnswers.{ended, conjugate_set}
-use Rattle.chains.proofs.StepLaws.{changed, conjugate_step, conjugate_steps, conjugate-done, not_refused, key_valid}
+use Rattle.phases.proofs.ChangeLaws.{conjugate_record}
+use Rattle.terms.specs.Chains.{conjugate_terms}
+use Rattle.chains.specs.ChainAnswers.{conjugate_set}
+use Rattle.chains.proofs.StepLaws.{changed, one_term, conjugate_term, conjugate-done, not_refused, key_valid}
+use Rattle.chains.proofs.PassLaws.{keeping_valid, keeping_room, keeping_own, keeping_more, keeping_refused, keeping_done}
 use Rattle.chains.proofs.chain.conjugate.Goals as goal
-use Rattle.chains.proofs.chain.conjugate.Invariants.{wanted}
 
 pub loop-x-init : goal.loop-x-init
 loop-x-init c =
-    let M = letters_of c.args.kind in
-    remaining_all item_keys complexes (wanted M c.args.s.now) (conjugate_step M) _ [] _
-    (rw c.held-x-items.ensures (ap (λ xs. add_all complex_terms xs []) (conjugate_steps M (held_by c.args.s.now))))
-    c.new-sum.ensures
-
-pub loop-x-preserved : goal.loop-x-preserved
-loop-x-preserved c =
-    remaining_more item_keys complexes c.loop-x.invariant _ c.loop-x-test.true _ _
-    (changed _ _ _ _ _ c.in_ok-z.ensures c.conjugate-in-loop-x.ensures c.unit_of_i-unit.ensures c.product.ensures) c.in_ok-add.ensures
+    let v = sym c.is_valid.ensures ∙ c.if-not-is_valid.false in
+    keeping_valid (conjugate_term (letters_of c.args.kind)) (λ x w. conjugate_record c.args.kind x.key w) c.args.zeros c.args.s.now _ _ v c.held-x-items.ensures c.new-out.ensures
 
 pub returns-in_err-z : goal.returns-in_err-z
 returns-in_err-z c =
     let v = sym c.is_valid.ensures ∙ c.if-not-is_valid.false in
     absurd (not_refused c.in_err-z.ensures (conjugate-done _ _ (key_valid _ _ v c.held-x-items.ensures _ _ c.loop-x-test.true)))
 
-pub returns-in_err-add : goal.returns-in_err-add
-unfolding conjugate_set
-returns-in_err-add c =
+pub keep-requires-clause-room : goal.keep-requires-clause-room
+keep-requires-clause-room c = keeping_room c.loop-x.invariant c.loop-x-test.true
+
+pub keep-requires-clause-own : goal.keep-requires-clause-own
+keep-requires-clause-own c = keeping_own c.loop-x.invariant
+
+pub loop-x-preserved : goal.loop-x-preserved
+loop-x-preserved c =
+    keeping_more c.loop-x.invariant c.loop-x-test.true _ _ _
+    (one_term (changed _ _ _ _ _ c.in_ok-z.ensures c.conjugate-in-loop-x.ensures c.unit_of_i-unit.ensures c.product.ensures)) c.in_ok-keep.ensures
+
+pub returns-in_err-keep : goal.returns-in_err-keep
+unfolding conjugate_set conjugate_terms
+returns-in_err-keep c =
     let v = sym c.is_valid.ensures ∙ c.if-not-is_valid.false in
-    rw v
-    (refused_told item_keys complexes _ _ _ _ c.from_residual-in_err-add.ensures.1
-    (remaining_full item_keys complexes c.loop-x.invariant _ c.loop-x-test.true _ _
-    (changed _ _ _ _ _ c.in_ok-z.ensures c.conjugate-in-loop-x.ensures c.unit_of_i-unit.ensures c.product.ensures) c.in_err-add.ensures))
+    rw (v, ← c.held-x-items.ensures)
+    (keeping_refused c.loop-x.invariant c.loop-x-test.true _ _ _
+    (one_term (changed _ _ _ _ _ c.in_ok-z.ensures c.conjugate-in-loop-x.ensures c.unit_of_i-unit.ensures c.product.ensures)) _ _ _
+    c.from_residual-in_err-keep.ensures.1 c.in_err-keep.ensures)
 
 pub returns : goal.returns
-unfolding conjugate_set
+unfolding conjugate_set conjugate_terms
 returns c =
     let v = sym c.is_valid.ensures ∙ c.if-not-is_valid.false in
-    rw v
-    (end_told item_keys complexes _ _ c.finished.result c.finished.ensures
-    ∙ ap (ended c.args.s.now) (sym (remaining_none item_keys complexes c.loop-x.invariant c.loop-x-test.false)))
+    rw (v, ← c.held-x-items.ensures) (keeping_done c.loop-x.invariant _ c.loop-x-test.false)

@@ -1,21 +1,8 @@
--- `conjugate`: the terms left, changed and added to what is held, give what all give.
-use Rattle.std.proofs.Common.{List, [], map}
-use Rattle.refusal.specs.Refusals.{Said, gives}
-use Rattle.complex.specs.Coefficients.{complexes}
-use Rattle.letters.specs.Matrices.{Letters, letters_of}
-use Rattle.terms.specs.Setting.{add_all}
-use Rattle.term_sets.specs.Complexes.{Term, TermSet, held_by, complex_terms}
-use Rattle.term_sets.specs.Keys.{item_keys}
-use Rattle.term_writing.proofs.ChainLaws.{Remaining}
-use Rattle.chains.specs.ChainAnswers.{conjugates}
-use Rattle.chains.proofs.StepLaws.{conjugate_step}
+-- `conjugate`: of the first terms, changed, those that are not zero are held.
+use Rattle.letters.specs.Matrices.{letters_of}
+use Rattle.chains.proofs.StepLaws.{conjugate_term}
+use Rattle.chains.proofs.PassLaws.{Keeping}
 use Rattle.chains.proofs.chain.conjugate.Given as goal
 
--- what the chain gives
-abbrev pub wanted : Letters → TermSet → Said (List Term)
-wanted M s = add_all complex_terms (map gives (conjugates M (held_by s))) []
-
 abbrev pub invariant-loop-x : goal.invariant-loop-x
-invariant-loop-x l =
-    let M = letters_of l.kind in
-    Remaining item_keys complexes (wanted M l.s) (conjugate_step M) l.x-items l.x-index [] (held_by l.sum.set)
+invariant-loop-x l = Keeping (conjugate_term (letters_of l.kind)) l.x-items l.x-index l.out
