@@ -1,7 +1,7 @@
 -- A loop that puts changed terms into a set, one after the other, each coefficient added to zero: the set of the first i terms without their
 -- zeros, and what is left to judge. Terms that keep their keys go on having different ones, so that this is what adding them to nothing gives.
 -- Assumes nothing.
-use Prim.Native.Nat.{ℕ, suc, ◌+◌, ◌≤◌, ◌<◌}
+use Prim.Native.Nat.{ℕ, ◌+◌, ◌≤◌, ◌<◌}
 use native.Mathlib.Numerals.{add-one}
 use native.Mathlib.Omega.{arith}
 use mathlib.Core.Path.{◌≡◌, refl, sym, ap, ◌∙◌}

@@ -1,6 +1,6 @@
 -- `keep`: another coefficient's term comes last (`filled_more`).
 use Rattle.std.proofs.Common.{◌∙◌, ap, sym}
-use Rattle.refusal.specs.Refusals.{Said, done}
+use Rattle.refusal.specs.Refusals.{done}
 use Rattle.complex.specs.Complex.{sum_of}
 use Rattle.complex.specs.declared.Complex.{Complex}
 use Rattle.term_sets.specs.Complexes.{TermSet}

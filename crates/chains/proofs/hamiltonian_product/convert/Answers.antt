@@ -1,5 +1,5 @@
 -- `convert`: the terms of a valid Hamiltonian, whose keys differ, are collected.
-use Rattle.std.proofs.Common.{◌≡◌, ◌∙◌, sym, refl, ap, [], map, true}
+use Rattle.std.proofs.Common.{◌∙◌, sym, refl, ap, [], map}
 use lib.ListN.{length-map}
 use Rattle.refusal.specs.Refusals.{gives}
 use Rattle.terms.specs.Keyed.{each}
