@@ -1,8 +1,9 @@
 // The refusals of document 01's table, and what an entry that only does or refuses answers.
 #![tactic(auto)]
 
-ghost use Rattle.std.specs.Prelude.{◌≡◌};
+ghost use Rattle.std.specs.Prelude.{◌≡◌, Some};
 ghost use Rattle.refusal.specs.Refusals.{number, site_of, listed};
+ghost use Rattle.refusal.specs.Texts.{refusal_text};
 
 use std::fmt;
 use std::fmt::{Display, Formatter};
@@ -71,6 +72,8 @@ impl Refusal {
 
 // The number, and the site where there is one.
 impl Display for Refusal {
+    ghost output = { λ why. Some (refusal_text why) };
+
     fn fmt<W: fmt::Write>(&self, f: &mut Formatter<W>) -> fmt::Result {
         write!(f, "{}", self.number())?;
         match self.site() {
