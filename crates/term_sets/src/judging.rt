@@ -40,7 +40,7 @@ pub type MaskedTerms<N> = ArrayVec<MaskedTerm<N>, MOST_TERMS>;
 fn is_blank<K: Key, N: Coefficient>(t: &Term<K, N>) -> bool
     ensures { result ≡ is_blank K.keys N.numbers t.now }
 {
-    t.key.is_same(&K::blank()) && t.coefficient.is_plus_zero()
+    t.key.is_blank() && t.coefficient.is_plus_zero()
 }
 
 // Whether a coefficient is one that a valid set holds.

@@ -21,6 +21,10 @@ pub trait Key: Copy {
     fn blank() -> Self
         ensures { result ≡ keys.blank };
 
+    // Whether it is that key.
+    fn is_blank(&self) -> bool
+        ensures { result ≡ keys.same self.now keys.blank };
+
     // What an entry says of a key that it is given: 0, then 4.
     fn check(&self) -> Result<(), Refusal>
         ensures { said_done result ≡ keys.said_of self.now };
@@ -50,6 +54,10 @@ impl Key for Items {
 
     fn blank() -> Items {
         Items::new()
+    }
+
+    fn is_blank(&self) -> bool {
+        self.is_empty()
     }
 
     fn check(&self) -> Result<(), Refusal> {
@@ -93,6 +101,10 @@ impl Key for (Items, Items) {
 
     fn blank() -> (Items, Items) {
         (Items::new(), Items::new())
+    }
+
+    fn is_blank(&self) -> bool {
+        self.0.is_empty() && self.1.is_empty()
     }
 
     fn check(&self) -> Result<(), Refusal> {
