@@ -1,3 +1,4 @@
+pub mod ReadingLaws
 pub mod StepLaws
 pub mod PassLaws
 pub mod ScaleLaws

@@ -2,13 +2,13 @@
 use Prim.Native.Nat.{ℕ, zero, suc, ◌+◌, ◌-◌, ◌*◌, ◌/◌, ◌%◌, ◌^◌, ◌≤◌, ◌<◌}
 use native.Mathlib.Nat.{one-mul, mul_assoc, mul_comm, mul-le-mul, mul-pos, zero-mul, mod-eq_of_lt, le-div_iff_mul-le, le_refl, le_trans, lt_of_lt_of_le, lt_irrefl}
 use native.Mathlib.Omega.{arith}
-use mathlib.Core.Path.{◌≡◌, refl, sym, ap, ◌∙◌}
-use mathlib.Core.Bool.{Bool, true, false, cond, and-false, true≢false}
+use mathlib.Core.Path.{◌≡◌, refl, sym, ap, ◌∙◌, subst}
+use mathlib.Core.Bool.{Bool, true, false, not, cond, and-false, true≢false}
 use mathlib.Core.Option.{none, some, map}
 use lib.Dec.{T, leb, eqb}
 use lib.IntN.{pos, neg_ℤ}
 use lib.Pow.{pow_pos, pow-lt, pow_mono, pow-add, shl_lt, field}
-use lib.Ieee.{Float, nan, inf, fin, binary64, neg, is_nan, odd, of_fields, of_bits, to_bits, fits}
+use lib.Ieee.{Float, nan, inf, fin, binary64, neg, eq, ne, is_nan, odd, of_fields, of_bits, to_bits, fits}
 use lib.Ieee.Bits.{of_bits-to_bits}
 use lib.Ieee.Exact.{odd_sign}
 use borrow.Author.Tests.{lt-leb, le-leb, leb-true, leb-false, eq-eqb, ne_eqb}
@@ -146,9 +146,19 @@ bits_none x f e = go (leb (2 ^ 63) (to_bits binary64 x)) refl
 pub shifted_unit : (k : ℕ) → k < 64 → 1 * 2 ^ k % 2 ^ 64 ≡ 2 ^ k
 shifted_unit k h = rw (one-mul (2 ^ k)) (mod-eq_of_lt (pow-lt {i = k} {j = 64} h))
 
+pub unit_positive : (k : ℕ) → k < 64 → 0 < 1 * 2 ^ k % 2 ^ 64
+unit_positive k h = rw (shifted_unit k h) (pow_pos k)
+
 -- a NaN has no parts
 pub nan_none : (x : Float) → is_nan x ≡ true → whole_of x ≡ none
 unfolding is_nan whole_of parts_in
 nan_none nan e = refl
 nan_none (inf s) e = absurd (true≢false (sym e))
 nan_none (fin s m d) e = absurd (true≢false (sym e))
+
+-- a float that is itself is a number
+pub itself_number : (x : Float) → ne x x ≡ false → T (not (is_nan x))
+unfolding ne eq is_nan
+itself_number nan e = subst T e tt
+itself_number (inf s) e = tt
+itself_number (fin s m d) e = tt

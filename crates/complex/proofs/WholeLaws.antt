@@ -1,7 +1,7 @@
 -- Laws of whole parts: a fraction is whole however it is written, a part is not over the limit, and whole parts are equal
 -- as numbers exactly if they are the same whole number. No law asks that a float fits its format. Assumes nothing.
 use Prim.Native.Nat.{ℕ, zero, suc, ◌*◌, ◌/◌, ◌%◌, ◌^◌, ◌≤◌, ◌<◌}
-use native.Mathlib.Nat.{mul_assoc, mul_comm, mul-zero, mul_right_comm, mul-mod_left, div-add-mod', eq_of_mul-eq-mul_right, zero-mul}
+use native.Mathlib.Nat.{mul_assoc, mul_comm, mul-zero, mul_right_comm, mul-mod_left, div-add-mod', eq_of_mul-eq-mul_right, le_trans, zero-mul}
 use native.Mathlib.Omega.{arith}
 use mathlib.Core.Path.{◌≡◌, refl, sym, ap, ◌∙◌}
 use mathlib.Core.Bool.{Bool, true, false, not, ◌&&◌, ◌||◌, beq, cond, true≢false}
@@ -199,6 +199,19 @@ module _ (grain most : ℕ) where
 
 -- ---- at the grain and the limit of number 11
 
+-- an answer, read as a test and as a number
+pub some_whole : (x : Float) (z : ℤ) → whole_of x ≡ some z → is_whole x ≡ true
+unfolding is_whole
+some_whole x z e = rw e
+
+pub some_parts : (x : Float) (z : ℤ) → whole_of x ≡ some z → parts_of x ≡ z
+unfolding parts_of
+some_parts x z e = rw e
+
+pub none_whole : (x : Float) → whole_of x ≡ none → is_whole x ≡ false
+unfolding is_whole
+none_whole x e = rw e
+
 -- and the test back as an answer
 pub whole_some : (x : Float) → is_whole x ≡ true → whole_of x ≡ some (parts_of x)
 unfolding is_whole parts_of
@@ -216,6 +229,9 @@ whole_abs x z e = parts_most grain_power most_parts_power x z e
 pub mag_abs : (z : ℤ) → mag z ≤ nat_abs z
 mag_abs (pos n) = omega arith
 mag_abs (negsuc n) = omega arith
+
+pub whole_size : (x : Float) (z : ℤ) → whole_of x ≡ some z → mag z ≤ 2 ^ most_parts_power
+whole_size x z e = le_trans (mag_abs z) (whole_abs x z e)
 
 -- nor is it where there is none
 pub parts_abs : (x : Float) → nat_abs (parts_of x) ≤ 2 ^ most_parts_power

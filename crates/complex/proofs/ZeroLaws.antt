@@ -1,13 +1,20 @@
 -- +0 as a test: the one value that `is_plus_zero` passes, and the one whose bits are 0.
 -- Assumes nothing.
 use mathlib.Core.Path.{◌≡◌, refl, sym, ap, ◌∙◌}
-use mathlib.Core.Bool.{Bool, true, false, true≢false}
+use mathlib.Core.Bool.{Bool, true, false, not, true≢false}
 use lib.Dec.{T, eqb}
-use lib.Ieee.{Float, binary64, eq, of_bits, to_bits, fits}
+use lib.Ieee.{Float, nan, inf, fin, binary64, eq, of_bits, to_bits, fits, is_nan}
 use lib.Ieee.Bits.{of_bits-to_bits}
 use borrow.Author.Tests.{eqb-true}
 use Rattle.complex.specs.Complex.{plus_zero, is_plus_zero}
 use Rattle.complex.specs.PlusZero.{plus_zero_only, plus_zero_passes}
+
+-- a value that compares with 0 is a number
+pub compared_number : (x y : Float) → eq x y ≡ true → T (not (is_nan x))
+unfolding eq is_nan
+compared_number nan y e = absurd (true≢false (sym e))
+compared_number (inf s) y e = tt
+compared_number (fin s m d) y e = tt
 
 -- the bits are 0 exactly at +0
 pub bits_zero : (x : Float) → T (fits binary64 x) → eqb (to_bits binary64 x) 0 ≡ is_plus_zero x

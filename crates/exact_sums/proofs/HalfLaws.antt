@@ -3,12 +3,12 @@
 use Prim.Native.Nat.{ℕ, zero, suc, ◌+◌, ◌^◌, ◌≤◌, ◌<◌}
 use native.Mathlib.Nat.{le_refl}
 use native.Mathlib.Omega.{arith}
-use mathlib.Core.Path.{◌≡◌, refl, ap₂, ◌∙◌}
-use mathlib.Core.Bool.{Bool, true, false, ◌&&◌}
-use lib.Dec.{leb, ltb}
-use lib.IntN.{ℤ, pos, negsuc, neg_ℤ, nat_abs, sub_ℕ, ◌+ℤ◌}
-use lib.Signed.{mag}
-use borrow.Author.Tests.{leb-true, le-leb, ltb-true, ltb-false, lt-ltb, le-ltb, ne_eqb}
+use mathlib.Core.Path.{◌≡◌, refl, sym, ap, ap₂, ◌∙◌}
+use mathlib.Core.Bool.{Bool, true, false, ◌&&◌, true≢false}
+use lib.Dec.{leb, ltb, leb-suc-suc}
+use lib.IntN.{ℤ, pos, negsuc, neg_ℤ, nat_abs, sub_ℕ, ◌+ℤ◌, pos-ne-negsuc}
+use lib.Signed.{mag, le_z, lt_z}
+use borrow.Author.Tests.{leb-true, le-leb, lt-leb, ltb-true, ltb-false, lt-ltb, le-ltb, ne_eqb}
 use Rattle.std.specs.Int.{w64, cast_signed, cast_unsigned, int_wrapping_add, int_wrapping_neg}
 use Rattle.std.specs.Ordering.{int_eq}
 use Rattle.std.proofs.lemmas.Int.{to_z-of_z, fits_signed_from_abs, wrapping_add_is, wrapping_neg_is, int_wrap_fits}
@@ -39,7 +39,21 @@ abs_sum (pos a) (negsuc b) = abs_difference a (suc b)
 abs_sum (negsuc a) (pos b) = omega (arith, abs_difference b (suc a))
 abs_sum (negsuc a) (negsuc b) = omega arith
 
--- both parts within a size
+-- ---- the test of a size l
+
+pub below-within : (x l : ℤ) → lt_z x (pos 0) ≡ true → pos (nat_abs l) ≡ l → le_z (neg_ℤ l) x ≡ leb (nat_abs x) (nat_abs l)
+below-within (pos a) l h e = absurd (omega (arith, ltb-true a 0 h))
+below-within (negsuc k) (pos zero) h e = sym (lt-leb (suc k) 0 (omega arith))
+below-within (negsuc k) (pos (suc j)) h e = sym (leb-suc-suc k j)
+below-within (negsuc k) (negsuc j) h e = absurd (pos-ne-negsuc (suc j) j e)
+
+pub above_within : (x l : ℤ) → lt_z x (pos 0) ≡ false → pos (nat_abs l) ≡ l → le_z x l ≡ leb (nat_abs x) (nat_abs l)
+above_within (pos a) (pos m) h e = refl
+above_within (pos a) (negsuc j) h e = absurd (pos-ne-negsuc (suc j) j e)
+above_within (negsuc k) l h e = absurd (true≢false h)
+
+-- ---- both parts within a size
+
 module _ (m : ℕ) (z : G) where
   pub within-re : within m z ≡ true → nat_abs z.re ≤ m
   unfolding within
@@ -52,6 +66,21 @@ module _ (m : ℕ) (z : G) where
   pub within_both : nat_abs z.re ≤ m → nat_abs z.im ≤ m → within m z ≡ true
   unfolding within
   within_both h k = and_true (le-leb (nat_abs z.re) m h) (le-leb (nat_abs z.im) m k)
+
+-- both parts tested by the limit l, the first passed or not: u, v and w are x, y and l as read back
+module _ (l x y : ℤ) {w : ℤ} (b : w ≡ l) where
+  test : {z u : ℤ} {p : Bool} → u ≡ z → p ≡ leb (nat_abs u) (nat_abs w) → p ≡ leb (nat_abs z) (nat_abs l)
+  test a f = f ∙ ap₂ (λ (u w : ℤ). leb (nat_abs u) (nat_abs w)) a b
+
+  first : {t : Bool} {u : ℤ} {p : Bool} → u ≡ x → p ≡ leb (nat_abs u) (nat_abs w) → p ≡ t → within (nat_abs l) (whole x y) ≡ t && leb (nat_abs y) (nat_abs l)
+  unfolding within
+  first a f e = ap (λ (t : Bool). t && leb (nat_abs y) (nat_abs l)) (sym (test a f) ∙ e)
+
+  pub tested_both : {u v : ℤ} {p q : Bool} → u ≡ x → v ≡ y → p ≡ leb (nat_abs u) (nat_abs w) → p ≡ true → q ≡ leb (nat_abs v) (nat_abs w) → q ≡ within (nat_abs l) (whole x y)
+  tested_both a d f e g = test d g ∙ sym (first a f e)
+
+  pub tested_first : {u : ℤ} {p : Bool} → u ≡ x → p ≡ leb (nat_abs u) (nat_abs w) → p ≡ false → false ≡ within (nat_abs l) (whole x y)
+  tested_first a f e = sym (first a f e)
 
 -- ---- what does not wrap around
 

@@ -11,6 +11,7 @@ ghost use Rattle.hamiltonians.specs.RealAnswers.{told, get_real, set_real, add_r
 use complex::Complex;
 use products::PauliProduct;
 use refusal::Refusal;
+pub use term_sets::RealTerm;
 use term_sets::{RealSet, Set, Term, TermSet, places};
 use terms::MOST_TERMS;
 

@@ -1,15 +1,18 @@
 -- Laws of `same_items` and of `same_list`: each record is the same as itself, records that are the same are equal, and so are pairs of
--- them; and `==` on records answers `same_items`.
+-- them; one place of a comparison, and what is left to compare; and `==` on records answers `same_items`.
 -- Assumes nothing.
 use mathlib.Core.Path.{◌≡◌, refl, ap, ap₂}
 use mathlib.Core.List.{List, [], ◌∷◌}
 use mathlib.Core.Bool.{Bool, true, false, ◌&&◌}
-use Prim.Native.Nat.{ℕ}
+use Prim.Native.Nat.{ℕ, ◌+◌, ◌≤◌, ◌<◌}
+use native.Mathlib.Numerals.{add-one}
 use lib.Dec.{eqb}
+use lib.ListN.{length, drop, drop_of_length-le}
 use lib.Pointwise.{pointwise}
+use lib.Seq.{drop-cons}
 use borrow.Author.Tests.{eqb-true, eq-eqb, ne_eqb}
 use Rattle.letters.proofs.TestLaws.{and_true, and_left, and_right}
-use Rattle.items.specs.Lists.{same_list}
+use Rattle.items.specs.Lists.{at, same_list}
 use Rattle.items.specs.Record.{same_items, same_key}
 use Rattle.items.specs.declared.Items.{Items}
 use Rattle.items.specs.contracts.ItemsPartialEq.TheImpl as derived
@@ -32,6 +35,16 @@ same_list-equal (x ∷ xs) (y ∷ ys) h =
     let first : x ≡ y = eqb-true x y (and_left (eqb x y) (same_list xs ys) h) in
     let others : xs ≡ ys = same_list-equal xs ys (and_right (eqb x y) (same_list xs ys) h) in
     cc
+
+-- one place of a comparison: its two elements, and what follows them
+pub same_list_step : (l m : List ℕ) (i : ℕ) → i < length l → i < length m → same_list (drop i l) (drop i m) ≡ (eqb (at l i) (at m i) && same_list (drop (i + 1) l) (drop (i + 1) m))
+unfolding same_list
+same_list_step l m i a b = rw (add-one, drop-cons l i 0 a, drop-cons m i 0 b)
+
+-- nothing is left past the end of both
+pub same_list_past : (l m : List ℕ) (i : ℕ) → length l ≤ i → length m ≤ i → same_list (drop i l) (drop i m) ≡ true
+unfolding same_list
+same_list_past l m i a b = rw (drop_of_length-le l a, drop_of_length-le m b)
 
 -- ---- two records
 

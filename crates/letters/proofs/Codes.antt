@@ -4,7 +4,7 @@
 use mathlib.Core.Path.{◌≡◌, refl, sym, ap, ap₂, ◌∙◌}
 use mathlib.Core.Bool.{Bool, true, cond}
 use mathlib.Core.List.{List, [], ◌∷◌}
-use Prim.Native.Nat.{ℕ, ◌+◌, ◌*◌, ◌/◌, ◌%◌, ◌<◌}
+use Prim.Native.Nat.{ℕ, ◌+◌, ◌*◌, ◌/◌, ◌%◌, ◌≤◌, ◌<◌}
 use native.Mathlib.Omega.{arith}
 use lib.ListN.{get_or}
 use lib.Dec.{eqb}
@@ -102,6 +102,19 @@ identity_left kind l r h e = plain (ap (λ (l : ℕ). times (letters_of kind) l 
 -- the identity on the right
 pub identity_right : (kind : Kind) (l r : ℕ) → l < 4 → r ≡ 0 → (l ≡ letter_of (times (letters_of kind) l r)) × (0 ≡ power_of (times (letters_of kind) l r))
 identity_right kind l r h e = plain (ap (times (letters_of kind) l) e ∙ (closed kind).times_zero l h) h
+
+-- one key is passed at a time: `omega` takes six inequations at most
+past : {k n : ℕ} → n ≤ k → (k ≡ n → ⊥) → n + 1 ≤ k
+past h ne = omega arith
+
+-- the key that is left of 4 to 15
+pub fourteen : {k : ℕ} → 4 ≤ k → k < 16 → (k ≡ 4 → ⊥) → (k ≡ 5 → ⊥) → (k ≡ 6 → ⊥) → (k ≡ 7 → ⊥) → (k ≡ 8 → ⊥) → (k ≡ 9 → ⊥)
+    → (k ≡ 10 → ⊥) → (k ≡ 11 → ⊥) → (k ≡ 12 → ⊥) → (k ≡ 13 → ⊥) → (k ≡ 15 → ⊥) → k ≡ 14
+fourteen {k} from to n₄ n₅ n₆ n₇ n₈ n₉ n₁₀ n₁₁ n₁₂ n₁₃ n₁₅ =
+    last (past (past (past (past (past (past (past (past (past (past from n₄) n₅) n₆) n₇) n₈) n₉) n₁₀) n₁₁) n₁₂) n₁₃) to n₁₅
+  where
+    last : {k : ℕ} → 14 ≤ k → k < 16 → (k ≡ 15 → ⊥) → k ≡ 14
+    last a b ne = omega arith
 
 -- ---- the letters but Y and iY
 

@@ -1,8 +1,23 @@
--- Two lists compared place by place, of one length or of two.
+-- Two lists compared place by place, of one length or of two; and two tests of which the second may be passed over.
 -- Assumes nothing.
 use Rattle.std.proofs.Common.{◌≡◌, Bool, true, false, List, [], ◌∷◌, ◌&&◌, refl, sym, ◌∙◌, ap, length, arith}
 use Rattle.std.specs.List.{list_all, zip}
 use Rattle.observations.specs.Records.{same_lists}
+
+-- ---- two tests
+
+-- the first passes, and the second decides
+pub second_decides : {a b p q : Bool} → a ≡ p → a ≡ true → b ≡ q → b ≡ (p && q)
+second_decides {a} {b} {p} {q} e t f = let h : p ≡ true = sym e ∙ t in rw h f
+
+-- the first fails
+pub first_fails : {p : Bool} (q : Bool) → p ≡ false → false ≡ (p && q)
+first_fails q e = rw e
+
+pub first_decides : {a p : Bool} (q : Bool) → a ≡ p → a ≡ false → a ≡ (p && q)
+first_decides q e f = f ∙ first_fails q (sym e ∙ f)
+
+-- ---- two lists
 
 and_false : (a : Bool) → (a && false) ≡ false
 and_false true = refl

@@ -6,7 +6,7 @@ use mathlib.Core.Path.{◌≡◌, refl, sym, ap, ap₂, ◌∙◌}
 use lib.ListN.{get_or}
 use Rattle.std.specs.Prelude.{Some, None, Result, Ok, Err}
 use Rattle.std.specs.Result.{IsOk}
-use Rattle.refusal.specs.Refusals.{number, site_of, listed, gives, said_by, told_by}
+use Rattle.refusal.specs.Refusals.{number, site_of, listed, Said, gives, refuses, said_by, told_by, said_done}
 use Rattle.refusal.specs.declared.Refusal.{Refusal}
 use Rattle.refusal.specs.declared.Refusal.TheVariants.{Malformed, SiteTooHigh, UnknownLetter, SiteOccupied, EmptySide, CoefficientOutOfRange, SetFull, TooManySpins, SiteOutsideSpins, RowOutOfRange, BufferTooShort, NotWhole}
 
@@ -34,6 +34,16 @@ refusal_is RowOutOfRange = refl
 refusal_is BufferTooShort = refl
 refusal_is NotWhole = refl
 
+-- the answer that gives a value or holds a refusal
+abbrev pub answer_of : {A E : Type 0} → (A → E) → (Refusal → E) → Said A → E
+answer_of given refused (gives x) = given x
+answer_of given refused (refuses k l) = refused (refusal_of k l)
+
+-- answers that come back from what they say are equal where they say the same
+pub reading_known : {A E : Type 0} (reading : E → Said A) (given : A → E) (refused : Refusal → E) → ((x : E) → answer_of given refused (reading x) ≡ x)
+    → (x y : E) → reading x ≡ reading y → x ≡ y
+reading_known reading given refused back x y e = sym (back x) ∙ ap (answer_of given refused) e ∙ back y
+
 pub refusal_known : (why why' : Refusal) → number why ≡ number why' → site_of why ≡ site_of why' → why ≡ why'
 refusal_known why why' e h = sym (refusal_is why) ∙ ap₂ refusal_of e h ∙ refusal_is why'
 
@@ -54,6 +64,10 @@ said_by_known show known (Ok v) (Ok w) e = let h : show v ≡ show w = cc in ap 
 said_by_known show known (Err why) (Err why') e = ap Err (refusal_known why why' (cc) (cc))
 said_by_known show known (Ok v) (Err why) e = cc
 said_by_known show known (Err why) (Ok v) e = cc
+
+-- a result without a value, by its refusal
+pub done_known : OneToOne said_done
+done_known = said_by_known (λ (u : Unit). tt) (λ v w e. refl)
 
 -- a result on a record, by that record
 pub told_by_known : {V A : Type 0} (before : A) (show : V → A) → OneToOne show → OneToOne (told_by before show)

@@ -18,10 +18,10 @@ pub use products::{DecoherenceProduct, PauliProduct, Product, ProductEntry, With
 pub use row_entries::MOST_SPINS;
 
 // Sets of terms: operators and Hamiltonians.
-pub use hamiltonians::PauliHamiltonian;
+pub use hamiltonians::{PauliHamiltonian, RealTerm};
 pub use operators::{DecoherenceOperator, Operator, PauliOperator, operator_of};
 pub use term_sets::key::Key;
-pub use term_sets::{NoiseSet, RealSet, Set, Term, TermSet};
+pub use term_sets::{NoiseSet, NoiseTerm, RealSet, Set, Term, TermSet};
 pub use terms::MOST_TERMS;
 
 // Noise.

@@ -48,11 +48,15 @@ impl<K: Copy, N: Copy> Clone for Set<K, N> {
 // Products with complex coefficients.
 pub type TermSet = Set<Items, Complex>;
 
-// Products with real coefficients.
+// Products with real coefficients, and a term of them.
 pub type RealSet = Set<Items, f64>;
 
-// Pairs of decoherence products with complex coefficients.
+pub type RealTerm = Term<Items, f64>;
+
+// Pairs of decoherence products with complex coefficients, and a term of them.
 pub type NoiseSet = Set<(Items, Items), Complex>;
+
+pub type NoiseTerm = Term<(Items, Items), Complex>;
 
 // The places of a set. Code at type parameters learns their number here.
 pub fn places<T>(t: &[T; MOST_TERMS]) -> &[T]

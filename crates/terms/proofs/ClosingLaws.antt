@@ -6,7 +6,7 @@ use native.Mathlib.Omega.{arith}
 use mathlib.Core.Path.{◌≡◌, refl, sym, ap, ◌∙◌}
 use mathlib.Core.List.{List, [], ◌∷◌, ◌++◌, append_assoc}
 use lib.ListN.{length, get_or, take, drop, set, replicate, length-append, length-drop, length-set, length-replicate}
-use lib.Seq.{drop-cons, set-append_left, set_at, take_at, drop_at, length-take-le, take-length}
+use lib.Seq.{drop-cons, set-append_left, set_at, take_at, drop_at, get_or-drop, get_or-append-add, length-take-le, take-length}
 use Rattle.terms.specs.Keyed.{padded, omitted}
 
 -- the first n elements without the one at a place: later ones close up, and the last of the n places stays as it was
@@ -35,6 +35,18 @@ module _ {A : Type 0} where
   -- one element fewer
   pub length-omitted : (at : ℕ) (l : List A) → at < length l → length (omitted at l) + 1 ≡ length l
   length-omitted at l h = rw (length-append (take at l) (drop (at + 1) l), length-take-le at l (omega arith), length-drop (at + 1) l) (omega arith)
+
+  -- the next element of s is the one after it in l
+  pub next_omitted : (at i : ℕ) (l : List A) (d : A) → at ≤ i → i + 1 < length l → get_or (omitted at l) i d ≡ get_or l (i + 1) d
+  next_omitted at i l d h k =
+      let lt : length (take at l) ≡ at = length-take-le at l (omega arith) in
+      let e : i ≡ length (take at l) + (i - at) = omega arith in
+      let e2 : at + 1 + (i - at) ≡ i + 1 = omega arith in
+      ap (λ (j : ℕ). get_or (take at l ++ drop (at + 1) l) j d) e ∙ get_or-append-add (take at l) (drop (at + 1) l) (i - at) d ∙ get_or-drop (at + 1) l (i - at) d ∙ ap (λ (j : ℕ). get_or l j d) e2
+
+  -- the part before the place
+  pub take-omitted : (at : ℕ) (l : List A) → at ≤ length l → take at (omitted at l) ≡ take at l
+  take-omitted at l h = take_at (take at l) (drop (at + 1) l) at (length-take-le at l h)
 
   -- a store past s, laid over a longer list
   pub lay_last : (s l : List A) (z : A) → length s < length l → set (take (length s) s ++ drop (length s) l) (length s) z ≡ s ++ z ∷ drop (length s + 1) l

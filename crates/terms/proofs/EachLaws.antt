@@ -1,14 +1,22 @@
--- Tests of each element of a list: one that follows from another, runs of one element, and results. For any element type.
+-- Tests of each element of a list: one that follows from another, runs of one element, and results; and elements read. For any element type.
 -- Assumes nothing.
-use Prim.Native.Nat.{ℕ, zero, suc}
+use Prim.Native.Nat.{ℕ, zero, suc, ◌<◌}
+use native.Mathlib.Nat.{le_of_suc-le-suc, not-suc-le-zero}
 use mathlib.Core.Path.{◌≡◌, refl}
 use mathlib.Core.Bool.{Bool, true}
 use mathlib.Core.List.{List, [], ◌∷◌, ◌++◌, map}
-use lib.ListN.{replicate}
+use lib.ListN.{length, get_or, replicate}
 use Rattle.terms.specs.Keyed.{each, concat_map}
 use Rattle.terms.proofs.KeyedLaws.{each_cons, each_head, each_tail, All, all_nil, all_cons, all_head, all_tail}
 
 module _ {A : Type 0} where
+  -- what is read past the end does not matter below it
+  pub get_d_any : (l : List A) (i : ℕ) (d e : A) → i < length l → get_or l i d ≡ get_or l i e
+  get_d_any [] i d e h = absurd (not-suc-le-zero h)
+  get_d_any (x ∷ l) zero d e h = refl
+  get_d_any (x ∷ l) (suc i) d e h = get_d_any l i d e (le_of_suc-le-suc h)
+
+  -- a test that follows from another one
   -- a test that follows from another one
   pub each_follows : (p q : A → List A → Bool) → ((x : A) (l : List A) → p x l ≡ true → q x l ≡ true) → (l : List A) → each p l ≡ true → each q l ≡ true
   unfolding each

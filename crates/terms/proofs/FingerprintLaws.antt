@@ -7,8 +7,8 @@ use native.Mathlib.Omega.{arith}
 use mathlib.Core.Path.{◌≡◌, refl, sym, ap, ◌∙◌}
 use mathlib.Core.Bool.{Bool, true, false, not, ◌&&◌, true≢false}
 use mathlib.Core.List.{List, [], ◌∷◌, ◌++◌, map}
-use lib.ListN.{length, take, drop, get_or}
-use lib.Seq.{take-suc, drop-cons}
+use lib.ListN.{length, take, drop, get_or, set}
+use lib.Seq.{get_or-set_other, take-suc, drop-cons}
 use Rattle.std.proofs.lemmas.List.{take-append-drop}
 use borrow.Author.Tests.{not-true}
 use Rattle.letters.proofs.TestLaws.{and_true, and_left, and_right, neither}
@@ -24,6 +24,10 @@ pub record Fingerprints {K N : Type 0} (S : Terms K N) (B : Type 0) : Type 0 whe
   pub fingerprint : K → B
   pub same : B → B → Bool
   pub shared : (x y : K) → S.same x y ≡ true → same (fingerprint y) (fingerprint x) ≡ true
+
+-- one stored at i: the earlier places stay as they were
+pub stored_before : (l : List ℕ) (i x j : ℕ) → j < i → get_or (set l i x) j 0 ≡ get_or l j 0
+stored_before l i x j h = get_or-set_other l i j x 0 (λ e. omega arith)
 
 -- a test of an element between others
 has_within : {A : Type 0} (p : A → Bool) (l : List A) (t : A) (ts : List A) → has p (l ++ t ∷ ts) ≡ false → p t ≡ false

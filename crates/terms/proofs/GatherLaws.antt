@@ -1,12 +1,12 @@
--- An array that gathers a value of each of a set's terms, one after the other, with zeros past them: the loop that fills it.
--- A set has its count n and its places t.
+-- An array that gathers a value of each of a set's terms, one after the other, with zeros past them: the loop that fills it, and what the
+-- finished array has. A set has its count n and its places t.
 -- Assumes nothing.
-use Prim.Native.Nat.{ℕ, ◌+◌, ◌≤◌, ◌<◌}
+use Prim.Native.Nat.{ℕ, ◌+◌, ◌-◌, ◌≤◌, ◌<◌}
 use native.Mathlib.Omega.{arith}
 use mathlib.Core.Path.{◌≡◌, sym, ap, ◌∙◌}
 use mathlib.Core.List.{List, [], map}
-use lib.ListN.{length, take, get_or, set, length-map}
-use lib.Seq.{length-take-le}
+use lib.ListN.{length, take, get_or, set, replicate, length-map, length-append, length-replicate}
+use lib.Seq.{length-take-le, take_at}
 use Rattle.terms.specs.Keyed.{padded}
 use Rattle.terms.specs.Setting.{most_terms}
 use Rattle.terms.proofs.KeyedLaws.{map_more}
@@ -55,3 +55,21 @@ module _ {A B : Type 0} {f : A → B} {z : B} {n : ℕ} {t : List A} where
 
   pub gathered_count : {a : List B} {i : ℕ} → Gathered f z n t a i → n ≡ length (map f (take n t))
   gathered_count s = sym (values f t n s.few)
+
+  pub gathered_long : {a : List B} {i : ℕ} → Gathered f z n t a i → length a ≡ most_terms
+  gathered_long {a} {i} s =
+      let l = map f (take i t) in
+      let few = s.few in
+      let most = s.most in
+      let within = s.within in
+      let long : length l ≡ i = values f t i (omega arith) in
+      let m = length-replicate (most_terms - length l) z in
+      ap length s.is ∙ length-append l (replicate (most_terms - length l) z) ∙ omega arith
+
+-- ---- a finished array: its values come first
+
+module _ {A B : Type 0} (f : A → B) (z : B) (n : ℕ) (t : List A) (a : List B) (few : n ≤ length t) (e : a ≡ padded most_terms z (map f (take n t))) where
+  pub values_first : take n a ≡ map f (take n t)
+  values_first =
+      let l = map f (take n t) in
+      ap (take n) e ∙ take_at l (replicate (most_terms - length l) z) n (values f t n few)

@@ -1,5 +1,5 @@
--- Laws of lists of things with a key: what a place found says, tests of each element, lists that one is written in or struck from,
--- results one after the other. For any element type.
+-- Laws of lists of things with a key: a search from the front, what a place found says, tests of each element, lists that one is written in or
+-- struck from, results one after the other. For any element type.
 -- Assumes nothing.
 use Prim.Native.Nat.{ℕ, zero, suc, ◌+◌, ◌≤◌, ◌<◌}
 use native.Mathlib.Nat.{le_of_suc-le-suc, not-suc-le-zero, suc_inj, suc-ne-zero, le_refl, le_antisymm}
@@ -57,6 +57,23 @@ has_step false h i n e =
     ∙ bool_ext (ltb i n) (ltb (suc i) (suc n)) (λ t. let k = ltb-true i n t in lt-ltb (suc i) (suc n) (omega arith)) (λ t. let k = ltb-true (suc i) (suc n) t in lt-ltb i n (omega arith))
 
 module _ {A : Type 0} (test : A → Bool) where
+  -- ---- a search from the front: one place further
+
+  -- the element at i has the key
+  pub passes : (l : List A) (i : ℕ) (d : A) → i < length l → test (get_or l i d) ≡ true → first_at test (drop i l) ≡ 0
+  unfolding first_at
+  passes l i d h e = rw (drop-cons l i d h, e)
+
+  -- the element at i has another key
+  pub skips : (l : List A) (i : ℕ) (d : A) → i < length l → test (get_or l i d) ≡ false → first_at test (drop i l) ≡ suc (first_at test (drop (i + 1) l))
+  unfolding first_at
+  skips l i d h e = rw (add-one i, drop-cons l i d h, e)
+
+  -- past the end
+  pub none_left : (l : List A) (i : ℕ) → length l ≤ i → first_at test (drop i l) ≡ 0
+  unfolding first_at
+  none_left l i h = rw (drop_of_length-le l h)
+
   -- ---- the key is there, or nowhere
 
   -- the place is at most the length
@@ -196,6 +213,13 @@ unfolding has
 has_last p a [] e h = rw h
 has_last p a (x ∷ l) e h = let n = neither (p x) (has p l) e in rw (n.0, has_last p a l n.1 h)
 
+-- where no element has the key, the one at a place does not
+pub none_at : {A : Type 0} (p : A → Bool) (l : List A) (i : ℕ) (d : A) → i < length l → has p l ≡ false → p (get_or l i d) ≡ false
+unfolding has
+none_at p [] i d h e = absurd (omega arith)
+none_at p (x ∷ l) zero d h e = (neither (p x) (has p l) e).0
+none_at p (x ∷ l) (suc i) d h e = none_at p l i d (omega arith) (neither (p x) (has p l) e).1
+
 module _ {A : Type 0} (test : A → Bool) where
   struck_le : (b : Bool) (x : A) (s l : List A) → length s ≤ length l → length (cond b l (x ∷ s)) ≤ suc (length l)
   struck_le true x s l h = omega arith
@@ -272,7 +296,13 @@ module _ {A : Type 0} (test : A → Bool) where
   each-written p a alone first keep (x ∷ l) e = written-each_step p a (test x) x (written test a l) l refl (first x l) (keep x l) e (each-written p a alone first keep l)
 
 module _ {A B : Type 0} where
-  -- the first element's value, of none
+  -- ---- the first element's value
+
+  -- of one, and of none
+  pub head_or_one : (f : A → B) (b : B) (x : A) → head_or f b (x ∷ []) ≡ f x
+  unfolding head_or
+  head_or_one f b x = refl
+
   pub head_or_none : (f : A → B) (b : B) → head_or f b [] ≡ b
   unfolding head_or
   head_or_none f b = refl

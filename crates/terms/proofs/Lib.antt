@@ -1,7 +1,9 @@
+pub mod BranchLaws
 pub mod KeyedLaws
 pub mod ClosingLaws
 pub mod SettingLaws
 pub mod SummedLaws
+pub mod PlaceLaws
 pub mod CopyLaws
 pub mod EachLaws
 pub mod FilledLaws

@@ -11,7 +11,7 @@ use mathlib.Core.List.{List, [], ◌∷◌, ◌++◌}
 use lib.Dec.{ltb}
 use lib.ListN.{length, take, drop, set, replicate, length-append, length-replicate, length-set, take-append-drop}
 use lib.Seq.{length-take-le}
-use borrow.Author.Tests.{ltb-true, not-true}
+use borrow.Author.Tests.{lt-ltb, le-ltb, ltb-true, not-true}
 use Rattle.terms.specs.Keyed.{first_at, held, has, written, struck, padded, omitted, each}
 use Rattle.terms.specs.Kind.{Terms}
 use Rattle.terms.specs.Setting.{most_terms, keyed, write, has_room, added}
@@ -47,6 +47,10 @@ module _ {A : Type 0} (blank : A) (n : ℕ) (t : List A) where
   pub terms_of : (l : List A) → n ≡ length l → t ≡ padded most_terms blank l → take n t ≡ l
   terms_of l e g = ap (λ (m : ℕ). take m t) e ∙ ap (λ (u : List A). take (length l) u) g ∙ padded-take most_terms blank l
 
+or_true : (b : Bool) → (b || true) ≡ true
+or_true true = refl
+or_true false = refl
+
 module _ {K N : Type 0} (S : Terms K N) (blank : S.Term) (k : K) (n : ℕ) (t : List S.Term) (s : Held blank n t) where
   -- ---- the key is at the place i
 
@@ -57,7 +61,16 @@ module _ {K N : Type 0} (S : Terms K N) (blank : S.Term) (k : K) (n : ℕ) (t : 
     at_place : (d : S.Term) → There d (take n t) (first_at (keyed S k) (take n t)) (has (keyed S k) (take n t)) (held (keyed S k) (take n t)) (λ x. written (keyed S k) x (take n t)) (struck (keyed S k) (take n t))
     at_place d = there (keyed S k) d (take n t) within
 
+    -- the key is there
+    pub found_has : has (keyed S k) (take n t) ≡ true
+    found_has = (at_place blank).has
+
     module _ (a : N) where
+      -- there is room for any coefficient
+      pub found_room : has_room S k a (take n t) ≡ true
+      unfolding has_room
+      found_room = rw found_has (or_true (S.is_zero a))
+
       -- with zero its term is struck out
       pub struck_is : S.is_zero a ≡ true → write S k a (take n t) ≡ omitted i (take n t)
       unfolding write
@@ -88,16 +101,38 @@ module _ {K N : Type 0} (S : Terms K N) (blank : S.Term) (k : K) (n : ℕ) (t : 
     no_place : Nowhere (take n t) (has (keyed S k) (take n t)) (held (keyed S k) (take n t)) (λ x. written (keyed S k) x (take n t)) (struck (keyed S k) (take n t))
     no_place = nowhere (keyed S k) (take n t) none_there
 
+    -- the key is not there
+    pub absent_has : has (keyed S k) (take n t) ≡ false
+    absent_has = no_place.has
+
     module _ (a : N) where
       -- with zero nothing changes
       pub free_is : S.is_zero a ≡ true → write S k a (take n t) ≡ take n t
       unfolding write
       free_is z = rw (z, no_place.struck)
 
+      -- zero needs no room
+      pub free_room : S.is_zero a ≡ true → has_room S k a (take n t) ≡ true
+      unfolding has_room
+      free_room z = rw z
+
+      -- nor another count
+      pub free_count : S.is_zero a ≡ true → n ≡ length (write S k a (take n t))
+      free_count z = sym s.long ∙ ap length (sym (free_is z))
+
+      -- nor other places
+      pub free_places : S.is_zero a ≡ true → t ≡ padded most_terms blank (write S k a (take n t))
+      free_places z = s.pads ∙ ap (λ (l : List S.Term). padded most_terms blank l) (sym (free_is z))
+
       -- with another coefficient it is put at the end
       pub appended_is : S.is_zero a ≡ false → write S k a (take n t) ≡ take n t ++ S.term k a ∷ []
       unfolding write
       appended_is z = rw (z, no_place.written (S.term k a))
+
+      -- where there is room
+      pub appended_room : n < most_terms → has_room S k a (take n t) ≡ true
+      unfolding has_room
+      appended_room m = rw (absent_has, lt-ltb (length (take n t)) most_terms (omega (arith, s.long))) (or_true (S.is_zero a))
 
       -- with one term more
       pub appended_count : S.is_zero a ≡ false → n + 1 ≡ length (write S k a (take n t))
@@ -112,6 +147,11 @@ module _ {K N : Type 0} (S : Terms K N) (blank : S.Term) (k : K) (n : ℕ) (t : 
           ∙ ap (λ (j : ℕ). set (padded most_terms blank (take n t)) j (S.term k a)) (sym s.long)
           ∙ padded_snoc most_terms blank (take n t) (S.term k a) (omega (arith, s.long))
           ∙ ap (λ (l : List S.Term). padded most_terms blank l) (sym (appended_is z))
+
+      -- or there is no room for it
+      pub full_room : S.is_zero a ≡ false → most_terms ≤ n → has_room S k a (take n t) ≡ false
+      unfolding has_room
+      full_room z m = rw (z, absent_has, le-ltb (length (take n t)) most_terms (omega (arith, s.long)))
 
 -- a term's key is not among those of the later terms: the test that `each` runs where a set holds no key twice
 abbrev pub different : {K N : Type 0} (S : Terms K N) → S.Term → List S.Term → Bool
