@@ -12,7 +12,7 @@ use Rattle.rows.specs.Buffers.{TwoParts, room_for, said_delivery}
 use Rattle.rows.specs.Calls.{count_of, RowCallIn}
 
 -- the count, 0 beside a refusal
-abbrev counted : Said ℕ → ℕ
+abbrev pub counted : Said ℕ → ℕ
 counted (gives n) = n
 counted (refuses k s) = 0
 
