@@ -1,5 +1,5 @@
 // Lent buffers: what they hold before a call, and whether they hold it after one.
-ghost use Rattle.std.specs.Prelude.{replicate, ◌≡◌, ◌==◌, ◌&&◌, min, length};
+ghost use Rattle.std.specs.Prelude.{replicate, ◌≡◌, ◌==◌, ◌&&◌, min, length, take};
 ghost use Rattle.observations.specs.Buffers.{each_from};
 
 // The places of a buffer: the most entries of a row, and some past them.
@@ -65,7 +65,8 @@ impl Room {
 
 // The first places of a buffer, at most all of them.
 fn first<T: Lent>(buffer: &mut [T; PLACES], n: usize) -> &mut [T]
-    ensures { length result.now ≡ min n PLACES }
+    ensures count { length result.now ≡ min n PLACES }
+    ensures places { result.now ≡ take n buffer.old }
 {
     &mut buffer[..n.min(PLACES)]
 }
@@ -92,7 +93,8 @@ impl<T: Lent> Buffers<T> {
 
     // The first places of each, at most all of them.
     pub fn lend(&mut self, room: Room) -> (&mut [u64], &mut [T], &mut [T])
-        ensures { (length result.0.now ≡ min room.columns PLACES) × (length result.1.now ≡ min room.re PLACES) × (length result.2.now ≡ min room.im PLACES) }
+        ensures counts { (length result.0.now ≡ min room.columns PLACES) × (length result.1.now ≡ min room.re PLACES) × (length result.2.now ≡ min room.im PLACES) }
+        ensures places { (result.0.now ≡ take room.columns self.old.columns) × (result.1.now ≡ take room.re self.old.re) × (result.2.now ≡ take room.im self.old.im) }
     {
         (
             first(&mut self.columns, room.columns),
