@@ -66,11 +66,11 @@ fn halves_row(a: &Asked, room: Room, lent: &mut Buffers<i64>) -> Result<usize, R
 // The count or the number that a call answers, and whether the rest of the buffers is as before.
 fn delivered<T: Lent, F: FnOnce(&mut Buffers<T>) -> Result<usize, Refusal>>(
     rt: &impl Print,
+    mut lent: Buffers<T>,
     call: F,
 ) -> io::Result<()>
     requires { F.IsAlwaysCallable call }
 {
-    let mut lent = Buffers::new();
     let answer = call(&mut lent);
     let n = answer.unwrap_or(0);
     let after = if lent.kept(n) { "as before" } else { "changed" };
@@ -84,8 +84,12 @@ pub(crate) fn call(rt: &impl Print, entry: u64, numbers: &mut Numbers) -> io::Re
     let asked = numbers.asked();
     let room = numbers.room();
     if entry == 56 {
-        delivered(rt, |lent| halves_row(&asked, room, lent))
+        delivered(rt, Buffers::new(), |lent| halves_row(&asked, room, lent))
     } else {
-        delivered(rt, |lent| float_row(entry, &asked, room, lent))
+        delivered(
+            rt,
+            Buffers::new(),
+            |lent| float_row(entry, &asked, room, lent),
+        )
     }
 }
