@@ -12,42 +12,8 @@ use std::io::Read;
 // The length of the longest record.
 const LONGEST: usize = 65535;
 
-// The records of a file that are still to come, read into a buffer that holds the longest one.
-#[derive(Drop)]
-struct Records<R> {
-    file: R,
-    buffer: [u8; LONGEST],
-}
-
-impl<R: Read> Records<R> {
-    fn new(file: R) -> Self {
-        Records {
-            file,
-            buffer: [0; LONGEST],
-        }
-    }
-
-    // The next record. One within which the file ends, or can't be read on, comes as an empty one.
-    fn next(&mut self) -> Option<&[u8]> {
-        let mut head = [0; 2];
-        let got = read_full(&mut self.file, &mut head);
-        if got == 0 {
-            return None;
-        }
-        let length = usize::from(u16::from_le_bytes(head));
-        if got < 2 || self.buffer.len() < length {
-            return Some(&[]);
-        }
-        let record = &mut self.buffer[..length];
-        if read_full(&mut self.file, record) < length {
-            return Some(&[]);
-        }
-        Some(record)
-    }
-}
-
 // Reads until a buffer is full, the file ends or a read fails: how many bytes it put at the buffer's start.
-fn read_full<R: Read>(file: &mut R, buffer: &mut [u8]) -> usize
+fn read_full(file: &mut File, buffer: &mut [u8]) -> usize
     ensures { result ≤ length buffer.new }
 {
     let mut done = 0;
@@ -58,6 +24,24 @@ fn read_full<R: Read>(file: &mut R, buffer: &mut [u8]) -> usize
         }
     }
     done
+}
+
+// Reads the next record to a buffer's start: its length, none at the file's end. One within which the file ends, or can't be read on, comes as
+// an empty one.
+fn read_record(file: &mut File, buffer: &mut [u8]) -> Option<usize> {
+    let mut head = [0; 2];
+    let got = read_full(file, &mut head);
+    if got == 0 {
+        return None;
+    }
+    let length = usize::from(u16::from_le_bytes(head));
+    if got < 2 || buffer.len() < length {
+        return Some(0);
+    }
+    if read_full(file, &mut buffer[..length]) < length {
+        return Some(0);
+    }
+    Some(length)
 }
 
 #[derive(Clone, Copy)]
@@ -107,14 +91,18 @@ impl<'a> Record<'a> {
 }
 
 // The report on a file, whose records are counted from 1. Every eighth one, where it agrees, is altered and compared again.
-pub(crate) fn compared(rt: &(impl Print + AllocGlobal), file: File) -> Result<Report, AllocError> {
-    let mut records = Records::new(file);
+pub(crate) fn compared(
+    rt: &(impl Print + AllocGlobal),
+    mut file: File,
+) -> Result<Report, AllocError> {
+    let mut buffer = [0; LONGEST];
     let mut report = Report::new();
     for index in 1..u64::MAX {
-        let Some(record) = records.next() else {
+        let Some(length) = read_record(&mut file, &mut buffer) else {
             break;
         };
-        let Some(record) = Record::new(record) else {
+        let (bytes, _) = buffer.split_at_checked(length).unwrap_or((&[], &[]));
+        let Some(record) = Record::new(bytes) else {
             report.add_unparsed(rt, index);
             continue;
         };
