@@ -13,16 +13,22 @@ mod set_records;
 mod single_letters;
 mod table;
 
-use std::io::Read;
+use std::io::BufRead;
 use table::Line;
 
-// Text that can't be printed is passed over, and the input ends where it can't be read.
+// The input ends where it can't be read. Of a file many bytes are there at once, of a pipe one.
 fn main(rt: HostRuntime) {
+    let mut input = rt.reader();
     let mut line = Line::new();
-    for byte in rt.reader().bytes() {
-        let Ok(byte) = byte else {
+    for _ in 0..u64::MAX {
+        let Ok(bytes) = input.fill_buf() else {
             return;
         };
-        let _ = line.read(&rt, byte);
+        let count = bytes.len();
+        if count == 0 {
+            return;
+        }
+        line.read(&rt, bytes);
+        input.consume(count);
     }
 }

@@ -42,32 +42,47 @@ impl Line {
         self.number = 0;
     }
 
-    // Takes in one byte more. A line that ends is run.
-    pub(crate) fn read(&mut self, rt: &impl Print, byte: u8) -> io::Result<()> {
+    // Takes in a byte before the name: whether the name begins with it.
+    fn begins_name(&mut self, byte: u8) -> bool {
         match byte {
-            b'\n' => {
+            b' ' => self.end_number(),
+            b'0'..=b'9' => self.add_digit(byte),
+            _ => self.is_named = true,
+        }
+        self.is_named
+    }
+
+    // Takes in the bytes that are there: a name is printed as far as it is among them, and a line that ends is run. What can't be printed is passed
+    // over.
+    pub(crate) fn read(&mut self, rt: &impl Print, bytes: &[u8]) {
+        let mut start = 0;
+        for (i, byte) in bytes.iter().enumerate() {
+            if *byte == b'\n' {
+                if self.is_named {
+                    let _ = rt.write_all(between(bytes, start, i));
+                }
                 let numbers = self.numbers;
                 *self = Line::new();
-                run(rt, &numbers)
+                let _ = run(rt, &numbers);
+            } else if !self.is_named && self.begins_name(*byte) {
+                start = i;
             }
-            b' ' if !self.is_named => {
-                self.end_number();
-                Ok(())
-            }
-            b'0'..=b'9' if !self.is_named => {
-                self.add_digit(byte);
-                Ok(())
-            }
-            _ => {
-                self.is_named = true;
-                rt.write_all(&[byte])
-            }
+        }
+        if self.is_named {
+            let _ = rt.write_all(between(bytes, start, bytes.len()));
         }
     }
 }
 
+// The bytes from one place to another.
+fn between(bytes: &[u8], start: usize, end: usize) -> &[u8] {
+    let (before, _) = bytes.split_at_checked(end).unwrap_or((bytes, &[]));
+    let (_, part) = before.split_at_checked(start).unwrap_or((&[], before));
+    part
+}
+
 // The call of a line, printed after its name.
-fn run(rt: &impl Print, line: &[u64]) -> io::Result<()> {
+fn run(rt: &impl Print, line: &[u64; MOST_NUMBERS]) -> io::Result<()> {
     let _ = print!(rt; ": ");
     let mut numbers = Numbers::new(line);
     let entry = numbers.number();
