@@ -1,4 +1,5 @@
-// The entries of document 01 and the types that they take and answer, by one name each. Nothing else is here, and no function.
+// The entries of document 01, the types that they take and answer, and what makes an operator of a set of terms, by one name each. Nothing is
+// written here.
 #![tactic(auto)]
 
 // Refusals and their numbers.
