@@ -1,6 +1,8 @@
 // Lent buffers: what they hold before a call, and whether they hold it after one.
-ghost use Rattle.std.specs.Prelude.{replicate, ◌≡◌, ◌==◌, ◌&&◌, min, length, take};
+ghost use Rattle.std.specs.Prelude.{replicate, ◌≡◌, ◌==◌, ◌&&◌, min, length, take, vec_len, IfOk};
 ghost use Rattle.observations.specs.Buffers.{each_from};
+
+use std::alloc::{AllocError, Global};
 
 // The places of a buffer: the most entries of a row, and some past them.
 pub const PLACES: usize = 324;
@@ -42,6 +44,14 @@ pub fn kept<T: Lent>(buffer: &[T], n: usize) -> bool
     buffer.iter().skip(n).all(|x| *x == T::OLD)
 }
 
+// A buffer as it is before a call, on the heap: generic code need not show that it fits in memory, as it must of an array.
+pub fn unwritten<T: Lent>(alloc: Global) -> Result<Vec<T>, AllocError>
+    ensures length { IfOk result (λ v. vec_len v ≡ PLACES) }
+    ensures items { IfOk result (λ v. ((y : T) → T.is_clone T.OLD y → y ≡ T.OLD) → v.items ≡ replicate PLACES T.OLD) }
+{
+    vec![in alloc; T::OLD; PLACES]
+}
+
 // How many places of each buffer a call is lent.
 #[derive(Clone, Copy)]
 pub struct Room {
@@ -64,11 +74,12 @@ impl Room {
 }
 
 // The first places of a buffer, at most all of them.
-fn first<T: Lent>(buffer: &mut [T; PLACES], n: usize) -> &mut [T]
-    ensures count { length result.now ≡ min n PLACES }
+pub fn first<T>(buffer: &mut [T], n: usize) -> &mut [T]
+    ensures count { length result.now ≡ min n (length buffer.old) }
     ensures places { result.now ≡ take n buffer.old }
 {
-    &mut buffer[..n.min(PLACES)]
+    let count = n.min(buffer.len());
+    &mut buffer[..count]
 }
 
 // The three buffers of a row call: columns, real parts and imaginary parts.
@@ -96,10 +107,11 @@ impl<T: Lent> Buffers<T> {
         ensures counts { (length result.0.now ≡ min room.columns PLACES) × (length result.1.now ≡ min room.re PLACES) × (length result.2.now ≡ min room.im PLACES) }
         ensures places { (result.0.now ≡ take room.columns self.old.columns) × (result.1.now ≡ take room.re self.old.re) × (result.2.now ≡ take room.im self.old.im) }
     {
+        let (columns, re, im) = (&mut self.columns, &mut self.re, &mut self.im);
         (
-            first(&mut self.columns, room.columns),
-            first(&mut self.re, room.re),
-            first(&mut self.im, room.im),
+            first(columns, room.columns),
+            first(re, room.re),
+            first(im, room.im),
         )
     }
 

@@ -21,9 +21,12 @@ pub trait Key: Copy {
     fn blank() -> Self
         ensures { result ≡ keys.blank };
 
-    // Whether it is that key.
+    // Whether it is that key. An `impl` need not write it; it may where it has a shorter way.
     fn is_blank(&self) -> bool
-        ensures { result ≡ keys.same self.now keys.blank };
+        ensures { result ≡ keys.same self.now keys.blank }
+    {
+        self.is_same(&Self::blank())
+    }
 
     // What an entry says of a key that it is given: 0, then 4.
     fn check(&self) -> Result<(), Refusal>
