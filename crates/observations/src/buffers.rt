@@ -47,9 +47,13 @@ pub fn kept<T: Lent>(buffer: &[T], n: usize) -> bool
 // A buffer as it is before a call, on the heap: generic code need not show that it fits in memory, as it must of an array.
 pub fn unwritten<T: Lent>(alloc: Global) -> Result<Vec<T>, AllocError>
     ensures length { IfOk result (λ v. vec_len v ≡ PLACES) }
-    ensures items { IfOk result (λ v. ((y : T) → T.is_clone T.OLD y → y ≡ T.OLD) → v.items ≡ replicate PLACES T.OLD) }
+    ensures items { IfOk result (λ v. v.items ≡ replicate PLACES T.OLD) }
 {
-    vec![in alloc; T::OLD; PLACES]
+    let mut places = Vec::with_capacity(alloc, PLACES)?;
+    for _ in 0..PLACES {
+        places.push(T::OLD)?;
+    }
+    Ok(places)
 }
 
 // How many places of each buffer a call is lent.
